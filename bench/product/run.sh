@@ -1,0 +1,9 @@
+#!/bin/sh
+# run.sh ARCHIVE: cycles for one product modulo 8192, beside a plain product in C.
+# ARCHIVE is what `rt staticlib` writes of the crate that exports saber_poly_mul.
+set -eu
+here=$(cd "$(dirname "$0")" && pwd)
+work=$(mktemp -d)
+trap 'rm -rf "$work"' EXIT
+cc -O3 -o "$work/cycles" "$here/cycles.c" "$1"
+"$work/cycles"

@@ -1,0 +1,37 @@
+-- `correctness::plain_secret_of` meets its contract: a part from 0 to n is the first n bytes, and a shorter key is its own first n bytes.
+use borrow.Author.Needs.{needs}
+use Prim.Native.Nat.{_*_}
+use mathlib.Core.Path.{sym, ap, _∙_}
+use native.Mathlib.Omega.{arith}
+use lib.ListN.{take}
+use lib.Seq.{take-all}
+use Rattle.questions.specs.Parts.{first-part}
+use Rattle.sets.specs.declared.Params.{Params}
+use Rattle.sampling.specs.Laws.{few-rows}
+use Rattle.correctness.proofs.plain_secret_of.Statement.{statement}
+use Rattle.correctness.proofs.plain_secret_of.Tie as tie
+
+mul-n : tie.Need-mul-n
+mul-n c = omega (arith, few-rows _ (c .before .set-params .ensures))
+
+returns : tie.Need-returns
+returns c =
+    let sk = c .before .before .before .before .before .args .«secret-key» .now in
+    first-part (416 * c .before .before .before .set-params .result .l) sk ∙ ap (λ (p : Params). take (416 * p .l) sk) (c .before .before .before .set-params .ensures)
+
+returns-2 : tie.Need-returns-2
+returns-2 c =
+    let sk = c .before .before .before .before .args .«secret-key» .now in
+    sym (take-all (416 * c .before .before .set-params .result .l) sk (omega (arith, c .if1 .left))) ∙ ap (λ (p : Params). take (416 * p .l) sk) (c .before .before .set-params .ensures)
+
+pub plain-secret-of-spec : {M : Type 1} → statement M
+plain-secret-of-spec =
+    tie.close
+    (tie.spec
+    (λ c κs. search needs)
+    mul-n
+    (λ c. search needs)
+    (λ c. search needs)
+    (λ c. search needs)
+    returns
+    returns-2)

@@ -1,0 +1,69 @@
+-- Demand 3, as document 01's "Noise" reads it: the noise of the four seeds, when it is within the bounds, and what the four calls then give.
+use Prim.Native.Nat.{ℕ, _*_, _<_}
+use mathlib.Core.List.{List}
+use mathlib.Core.Path.{_≡_}
+use lib.IntN.{ℤ}
+use lib.ListN.{take}
+use Rattle.sets.specs.declared.Params.{Params}
+use Rattle.sets.specs.Sets.{paramsOf}
+use Rattle.algebra.specs.Ring.{poly}
+use Rattle.ring.specs.Products.{entry}
+use Rattle.sha3.specs.Sponge.{shake128, sha3-256}
+use Rattle.sampling.specs.Sampling.{matrix, secret}
+use Rattle.kem.specs.Kem.{messageOf, coinsOf, publicKey}
+use Rattle.kem.specs.Promises.{Made, Encapsulated, Decapsulated}
+use Rattle.pke.specs.Promises.{Decrypted}
+use Rattle.noise.specs.Noise.{Within, noise}
+
+-- the matrix seed, the secret seed and the sealing seed
+module _ (p : Params) (matrixSeed secretSeed seed : List ℕ) where
+  -- s of making keys
+  abbrev pub keySecret : List ℤ
+  keySecret = secret (p .l) (p .mu) secretSeed
+
+  -- s' of sealing to the public key that making wrote: its seed is r
+  abbrev pub sealingSecret : List ℤ
+  sealingSecret = secret (p .l) (p .mu) (coinsOf (messageOf seed) (sha3-256 (publicKey p matrixSeed secretSeed)))
+
+  -- N, reckoned from the seeds by the steps
+  unfoldable pub seedsNoise : List ℤ
+  seedsNoise = noise 256 (p .l) (entry (p .l) (matrix (p .l) (shake128 matrixSeed 32))) (poly keySecret) (poly sealingSecret)
+
+  -- every coefficient lies in -8 M .. 8 M
+  abbrev pub Quiet : Type 0
+  Quiet = Within (p .margin) seedsNoise
+
+-- a known set, four seeds of 32 bytes, and outputs of their results' lengths
+pub record Ready (set : ℕ) (matrixSeed secretSeed z seed pk sk ct ss message secret : ℕ) : Type 0 where
+  pub known : 0 < paramsOf set .l
+  pub matrixSeedLong : matrixSeed ≡ 32
+  pub secretSeedLong : secretSeed ≡ 32
+  pub zLong : z ≡ 32
+  pub seedLong : seed ≡ 32
+  pub pkLong : pk ≡ paramsOf set .pk
+  pub skLong : sk ≡ paramsOf set .sk
+  pub ctLong : ct ≡ paramsOf set .ct
+  pub ssLong : ss ≡ 32
+  pub messageLong : message ≡ 32
+  pub secretLong : secret ≡ 32
+
+-- the four calls, each on what the earlier ones wrote: r1 .. r4 are their answers, a primed list is an output at exit
+pub record Calls
+    (set : ℕ) (matrixSeed secretSeed z seed pk sk ct ss message secret : List ℕ) (r1 r2 r3 r4 : ℕ)
+    (pk' sk' ct' ss' message' secret' : List ℕ) : Type 0 where
+  pub making : Made set matrixSeed secretSeed z pk sk r1 pk' sk'
+  pub sealing : Encapsulated set pk' seed ct ss r2 ct' ss'
+  pub decryption : Decrypted set (take (416 * paramsOf set .l) sk') ct' message r3 message'
+  pub unsealing : Decapsulated set sk' ct' secret r4 secret'
+
+-- no call refuses
+pub record Answered (r1 r2 r3 r4 : ℕ) : Type 0 where
+  pub makes : r1 ≡ 0
+  pub seals : r2 ≡ 0
+  pub decrypts : r3 ≡ 0
+  pub unseals : r4 ≡ 0
+
+-- decryption wrote all of m, and unsealing all of the shared secret that sealing wrote
+pub record Opened (seed ss' message' secret' : List ℕ) : Type 0 where
+  pub message : message' ≡ messageOf seed
+  pub secret : secret' ≡ ss'

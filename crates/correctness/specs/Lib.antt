@@ -1,0 +1,4 @@
+pub mod Claim
+pub mod Promises
+pub mod Opening
+pub mod Theorem

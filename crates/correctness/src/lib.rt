@@ -1,0 +1,51 @@
+// The four calls together: what is sealed to a made key comes back, where the noise is within its bounds.
+ghost use mathlib.Core.Path.{_≡_};
+ghost use Prim.Native.Nat.{_*_};
+ghost use lib.ListN.{take};
+ghost use Rattle.sets.specs.Sets.{paramsOf};
+ghost use Rattle.correctness.specs.Promises.{RoundTrip};
+ghost use Rattle.correctness.specs.Promises;
+use sets::set_params;
+
+// The earlier of two answers that is a refusal, and 0 where neither is.
+fn earliest(first: u8, later: u8) -> u8
+    ensures { λ r. ⌜ r ≡ Promises.earliest first later ⌝ }
+{
+    if first == 0 { later } else { first }
+}
+
+// The first 416 l bytes of a secret key, or all of a shorter one.
+fn plain_secret_of(set: u32, secret_key: &[u8]) -> &[u8]
+    ensures { λ r. ⌜ now r ≡ take (416 * paramsOf set .l) (now («secret_key» .entry)) ⌝ }
+{
+    let p = set_params(set);
+    let n = 416 * p.l;
+    if n <= secret_key.len() {
+        &secret_key[0..n]
+    } else {
+        secret_key
+    }
+}
+
+// Makes keys, encapsulates, decrypts and decapsulates, each with what the calls before it wrote. Answers the earliest refusal.
+pub fn round_trip(
+    set: u32,
+    matrix_seed: &[u8],
+    secret_seed: &[u8],
+    z: &[u8],
+    seed: &[u8],
+    public_key: &mut [u8],
+    secret_key: &mut [u8],
+    ciphertext: &mut [u8],
+    sealed_secret: &mut [u8],
+    message: &mut [u8],
+    opened_secret: &mut [u8],
+) -> u8
+    ensures { λ r. ⌜ RoundTrip set (now («matrix_seed» .entry)) (now («secret_seed» .entry)) (now (z .entry)) (now (seed .entry)) (now («public_key» .entry)) (now («secret_key» .entry)) (now (ciphertext .entry)) (now («sealed_secret» .entry)) (now (message .entry)) (now («opened_secret» .entry)) r (now («public_key» .exit)) (now («secret_key» .exit)) (now (ciphertext .exit)) (now («sealed_secret» .exit)) (now (message .exit)) (now («opened_secret» .exit)) ⌝ }
+{
+    let r1 = kem::keygen(set, matrix_seed, secret_seed, z, public_key, secret_key);
+    let r2 = kem::encaps(set, public_key, seed, ciphertext, sealed_secret);
+    let r3 = pke::decrypt(set, plain_secret_of(set, secret_key), ciphertext, message);
+    let r4 = kem::decaps(set, secret_key, ciphertext, opened_secret);
+    earliest(r1, earliest(r2, earliest(r3, r4)))
+}

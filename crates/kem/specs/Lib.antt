@@ -1,0 +1,4 @@
+pub mod Same
+pub mod Kem
+pub mod Promises
+pub mod Laws

@@ -1,0 +1,1 @@
+// The noise and the theorem that small noise does no harm: definitions and laws, in specs/.

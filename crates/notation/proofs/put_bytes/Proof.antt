@@ -1,0 +1,55 @@
+-- `notation::put_bytes` meets its contract: the digits of what is left of the bytes are put where the loop goes on.
+use Prim.Native.Nat.{_+_, _*_, _-_}
+use mathlib.Core.Path.{refl, sym, _∙_, ap}
+use native.Mathlib.Omega.{arith}
+use lib.ListN.{length}
+use borrow.Author.Needs.{needs}
+use Rattle.notation.specs.Notation.{hexOfBytes, split}
+use Rattle.notation.specs.Laws.{length-hex, shown-none}
+use Rattle.notation.specs.Loops.{Showing, showing-none, showing-more, showing-puts, puts-as}
+use Rattle.notation.proofs.put_bytes.Statement.{statement}
+use Rattle.notation.proofs.put_bytes.Tie as tie
+
+abbrev Inv-loop : tie.InvT-loop
+Inv-loop text₀ at bytes i₀ text i = Showing hexOfBytes text₀ at bytes text i (at + 2 * i)
+
+abbrev μ-loop : tie.MeasureT-loop
+μ-loop text₀ at bytes i₀ text i = length bytes - i
+
+returns : tie.Need-returns Inv-loop μ-loop
+returns c = puts-as (sym (shown-none _ (omega (arith, length-hex (c .before .before .before .before .before .before .before .args .bytes .now))))) (search needs) (c .before .before .put-byte .ensures)
+
+loop-holds : tie.Need-loop-holds Inv-loop μ-loop
+loop-holds c = showing-none (search needs)
+
+loop-again : tie.Need-loop-again Inv-loop μ-loop
+unfolding split
+loop-again c = showing-more (λ x xs. refl) (search needs) (c .before .before .before .before .before .before .loop .inv) (c .before .before .put-pair .ensures) (search needs)
+
+returns-2 : tie.Need-returns-2 Inv-loop μ-loop
+unfolding split
+returns-2 c =
+    let long = length-hex (c .before .before .before .before .before .args .bytes .now) in
+    showing-puts refl (omega (arith, long)) (search needs) (c .before .loop .inv) (omega (arith, long)) (omega (arith, long))
+
+pub put-bytes-spec : {M : Type 1} → statement M
+put-bytes-spec =
+    tie.close
+    (tie.spec
+    Inv-loop
+    μ-loop
+    (λ c κs. search needs)
+    (λ c. search needs)
+    returns
+    loop-holds
+    (λ c. search needs)
+    (λ c. search needs)
+    (λ c. search needs)
+    (λ c κs. search needs)
+    (λ c. search needs)
+    (λ c. search needs)
+    loop-again
+    (λ c. search needs)
+    (λ c. search needs)
+    (λ c. search needs)
+    returns-2)

@@ -1,0 +1,29 @@
+-- `notation::read_coefficients` meets its contract: the digits of the next word are read into the front of the buffer.
+use mathlib.Core.Path.{refl}
+use borrow.Author.Needs.{needs}
+use Rattle.notation.specs.Notation.{join}
+use Rattle.notation.specs.Arguments.{reads-done}
+use Rattle.notation.proofs.read_coefficients.Statement.{statement}
+use Rattle.notation.proofs.read_coefficients.Tie as tie
+
+returns : tie.Need-returns
+unfolding join
+returns c =
+    reads-done _ refl (c .before .before .before .before .before .before .next-word .ensures) (c .before .before .before .coefficients-of .ensures) (c .after .ensures .0)
+    (c .after .ensures .1) (search needs) (search needs)
+
+pub read-coefficients-spec : {M : Type 1} → statement M
+read-coefficients-spec =
+    tie.close
+    (tie.spec
+    (λ c κs. search needs)
+    (λ c. search needs)
+    (λ c. search needs)
+    (λ c. search needs)
+    (λ c. search needs)
+    (λ c. search needs)
+    (λ c. search needs)
+    (λ c κs. search needs)
+    (λ c κs. search needs)
+    (λ c. search needs)
+    returns)

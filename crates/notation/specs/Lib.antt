@@ -1,0 +1,5 @@
+pub mod Notation
+pub mod Laws
+pub mod Promises
+pub mod Loops
+pub mod Arguments

@@ -1,0 +1,17 @@
+use borrow.Author.Needs.{needs}
+use Rattle.pke.proofs.encrypt_answer.Statement.{statement}
+use Rattle.pke.proofs.encrypt_answer.Tie as tie
+
+returns : tie.Need-returns
+returns c = cc
+
+pub encrypt-answer-spec : {M : Type 1} → statement M
+encrypt-answer-spec =
+    tie.close
+    (tie.spec
+    (λ c κs. search needs)
+    (λ c κs. search needs)
+    (λ c κs. search needs)
+    (λ c κs. search needs)
+    (λ c κs. search needs)
+    returns)

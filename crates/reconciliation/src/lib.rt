@@ -1,0 +1,88 @@
+// Reconciliation: the data that encryption sends of a polynomial, and the recovery of the message bits from it.
+ghost use mathlib.Core.Path.{_≡_};
+ghost use lib.ListN.{length};
+ghost use Rattle.reconciliation.specs.Reconciliation.{bitOf, reconData, recovered, reconDataAnswer, recoverAnswer};
+ghost use Rattle.reconciliation.specs.Promises.{ReconData, Recovered, ReconRoom, RecoverRoom};
+use questions::all_below;
+use questions::ask;
+use sets::set_params;
+
+// The data of each coefficient. The step is a power of two, so the quotient by it is a shift.
+pub fn recon_into(g: u16, w: &[u16], data: &mut [u16])
+    requires { ⌜ ReconRoom g (length (now w)) (length (now «data»)) ⌝ }
+    ensures { λ _. ⌜ now («data» .exit) ≡ reconData g (now (w .entry)) ⌝ }
+{
+    let shift = u16::trailing_zeros(g);
+    let mut i = 0;
+    while i < data.len() {
+        data[i] = w[i] >> shift;
+        i += 1;
+    }
+}
+
+// The bit of one coefficient. A multiple of 1024 keeps the difference from falling below zero.
+fn bit_of(g: u16, margin: u16, v: u16, data: u16) -> u16
+    ensures { λ r. ⌜ r ≡ bitOf g margin v «data» ⌝ }
+{
+    ((v as u32 + margin as u32 + (1024 - g as u32 * data as u32 % 1024)) % 1024 / 512) as u16
+}
+
+// The bit of each coefficient.
+pub fn recover_into(g: u16, margin: u16, v: &[u16], data: &[u16], bits: &mut [u16])
+    requires { ⌜ RecoverRoom (length (now v)) (length (now «data»)) (length (now bits)) ⌝ }
+    ensures { λ _. ⌜ now (bits .exit) ≡ recovered g margin (now (v .entry)) (now («data» .entry)) ⌝ }
+{
+    let mut i = 0;
+    while i < bits.len() {
+        bits[i] = bit_of(g, margin, v[i], data[i]);
+        i += 1;
+    }
+}
+
+fn recon_data_answer(set: u32, w: &[u16], data: usize) -> u8
+    ensures { λ r. ⌜ r ≡ reconDataAnswer set (now (w .entry)) «data» ⌝ }
+{
+    let p = set_params(set);
+    let q9 = ask(data == 256, 9, 0);
+    let q8 = ask(all_below(1024, w), 8, q9);
+    let q7 = ask(w.len() == 256, 7, q8);
+    ask(0 < p.l, 1, q7)
+}
+
+// The bound of data, 1024 / g, is 2 t.
+fn recover_answer(set: u32, v: &[u16], data: &[u16], bits: usize) -> u8
+    ensures { λ r. ⌜ r ≡ recoverAnswer set (now (v .entry)) (now («data» .entry)) bits ⌝ }
+{
+    let p = set_params(set);
+    let bound = 2 * p.t as u32;
+    let q9 = ask(bits == 256, 9, 0);
+    let q8 = ask(all_below(1024, v) & all_below(bound, data), 8, q9);
+    let q7 = ask((v.len() == 256) & (data.len() == 256), 7, q8);
+    ask(0 < p.l, 1, q7)
+}
+
+// Reconciliation data of a polynomial: Q1, Q7, Q8, Q9.
+pub fn recon_data(set: u32, w: &[u16], data: &mut [u16]) -> u8
+    ensures { λ r. ⌜ ReconData set (now (w .entry)) (now («data» .entry)) r (now («data» .exit)) ⌝ }
+{
+    let r = recon_data_answer(set, w, data.len());
+    if r != 0 {
+        return r;
+    }
+    let p = set_params(set);
+    recon_into(p.g, w, data);
+    0
+}
+
+// Recovery of the message bits: Q1, Q7, Q8, Q9.
+pub fn recover(set: u32, v: &[u16], data: &[u16], bits: &mut [u16]) -> u8
+    ensures { λ r. ⌜ Recovered set (now (v .entry)) (now («data» .entry)) (now (bits .entry)) r (now (bits .exit)) ⌝ }
+{
+    let r = recover_answer(set, v, data, bits.len());
+    if r != 0 {
+        return r;
+    }
+    let p = set_params(set);
+    recover_into(p.g, p.margin, v, data, bits);
+    0
+}

@@ -1,0 +1,38 @@
+-- `ring::reduce` meets its contract: one coefficient a turn.
+use Prim.Native.Nat.{ℕ, _-_, _%_}
+use mathlib.Core.Logic.{⊎-elim}
+use mathlib.Core.Path.{refl, _∙_}
+use native.Mathlib.Omega.{arith}
+use borrow.Author.Needs.{needs}
+use lib.ListN.{getD}
+use Rattle.questions.specs.Fill.{Filled, fill-none, fill-more, fill-all}
+use Rattle.questions.specs.Laws.{from-map}
+use Rattle.ring.proofs.reduce.Statement.{statement}
+use Rattle.ring.proofs.reduce.Tie as tie
+
+abbrev Inv-loop : tie.InvT-loop
+Inv-loop m out₀ acc k₀ out k = Filled 256 out k (λ (k : ℕ). getD acc k 0 % m)
+
+abbrev μ-loop : tie.MeasureT-loop
+μ-loop m out₀ acc k₀ out k = 256 - k
+
+rem-out : tie.Need-rem-out Inv-loop μ-loop
+rem-out c = ⊎-elim (λ e. omega arith) (λ e. omega arith) (c .before .before .pre .0)
+
+pub reduce-spec : {M : Type 1} → statement M
+reduce-spec =
+    tie.close
+    (tie.spec
+    Inv-loop
+    μ-loop
+    (λ c. fill-none (omega arith))
+    (λ c. search needs)
+    (λ c. search needs)
+    rem-out
+    (λ c. search needs)
+    (λ c. search needs)
+    (λ c. search needs)
+    (λ c. search needs)
+    (λ c. fill-more (omega arith) (c .before .loop .inv) refl)
+    (λ c. search needs)
+    (λ c. fill-all (omega arith) (c .before .loop .inv) ∙ from-map _ 256 (c .before .before .args .t1) 0 (omega arith)))

@@ -1,0 +1,196 @@
+// The calls for programs in C and Rust, each with its own promise. A slice is passed as a pointer and then a count of elements.
+ghost use mathlib.Core.Path.{_≡_};
+ghost use Rattle.sha3.specs.Promises.{Shaken, Hashed};
+ghost use Rattle.sha3.specs.Sponge.{sha3-256, sha3-512};
+ghost use Rattle.packing.specs.Promises.{Packed, Unpacked};
+ghost use Rattle.ring.specs.Promises.{Multiplied, Rounded};
+ghost use Rattle.sampling.specs.Promises.{GenMatrix, GenSecret};
+ghost use Rattle.reconciliation.specs.Promises.{ReconData, Recovered};
+ghost use Rattle.pke.specs.Promises.{Encrypted, Decrypted};
+ghost use Rattle.kem.specs.Promises.{Made, Encapsulated, Decapsulated};
+ghost use Rattle.saber.specs.Lookup.{orZero, keyOffset, keyLength};
+use sets::lookup_answer;
+use sets::set_params;
+
+// Making keys: Q1, Q3, Q9.
+#[no_mangle]
+pub extern "C" fn saber_keygen(
+    set: u32,
+    matrix_seed: &[u8],
+    secret_seed: &[u8],
+    z: &[u8],
+    public_key: &mut [u8],
+    secret_key: &mut [u8],
+) -> u8
+    ensures { λ r. ⌜ Made set (now («matrix_seed» .entry)) (now («secret_seed» .entry)) (now (z .entry)) (now («public_key» .entry)) (now («secret_key» .entry)) r (now («public_key» .exit)) (now («secret_key» .exit)) ⌝ }
+{
+    kem::keygen(set, matrix_seed, secret_seed, z, public_key, secret_key)
+}
+
+// Encapsulation, "sealing": Q1, Q3, Q4, Q9.
+#[no_mangle]
+pub extern "C" fn saber_encaps(
+    set: u32,
+    public_key: &[u8],
+    seed: &[u8],
+    ciphertext: &mut [u8],
+    shared_secret: &mut [u8],
+) -> u8
+    ensures { λ r. ⌜ Encapsulated set (now («public_key» .entry)) (now (seed .entry)) (now (ciphertext .entry)) (now («shared_secret» .entry)) r (now (ciphertext .exit)) (now («shared_secret» .exit)) ⌝ }
+{
+    kem::encaps(set, public_key, seed, ciphertext, shared_secret)
+}
+
+// Decapsulation, "unsealing": Q1, Q5, Q6, Q9.
+#[no_mangle]
+pub extern "C" fn saber_decaps(
+    set: u32,
+    secret_key: &[u8],
+    ciphertext: &[u8],
+    shared_secret: &mut [u8],
+) -> u8
+    ensures { λ r. ⌜ Decapsulated set (now («secret_key» .entry)) (now (ciphertext .entry)) (now («shared_secret» .entry)) r (now («shared_secret» .exit)) ⌝ }
+{
+    kem::decaps(set, secret_key, ciphertext, shared_secret)
+}
+
+// Encryption: Q1, Q3, Q4, Q9.
+#[no_mangle]
+pub extern "C" fn saber_encrypt(
+    set: u32,
+    public_key: &[u8],
+    message: &[u8],
+    seed: &[u8],
+    ciphertext: &mut [u8],
+) -> u8
+    ensures { λ r. ⌜ Encrypted set (now («public_key» .entry)) (now (message .entry)) (now (seed .entry)) (now (ciphertext .entry)) r (now (ciphertext .exit)) ⌝ }
+{
+    pke::encrypt(set, public_key, message, seed, ciphertext)
+}
+
+// Decryption: Q1, Q5, Q6, Q9.
+#[no_mangle]
+pub extern "C" fn saber_decrypt(
+    set: u32,
+    plain_secret: &[u8],
+    ciphertext: &[u8],
+    message: &mut [u8],
+) -> u8
+    ensures { λ r. ⌜ Decrypted set (now («plain_secret» .entry)) (now (ciphertext .entry)) (now (message .entry)) r (now (message .exit)) ⌝ }
+{
+    pke::decrypt(set, plain_secret, ciphertext, message)
+}
+
+// The matrix from its seed: Q1, Q3, Q9.
+#[no_mangle]
+pub extern "C" fn saber_gen_matrix(set: u32, seed: &[u8], matrix: &mut [u16]) -> u8
+    ensures { λ r. ⌜ GenMatrix set (now (seed .entry)) (now (matrix .entry)) r (now (matrix .exit)) ⌝ }
+{
+    sampling::gen_matrix(set, seed, matrix)
+}
+
+// The secret from its seed: Q1, Q3, Q9.
+#[no_mangle]
+pub extern "C" fn saber_gen_secret(set: u32, seed: &[u8], secret: &mut [u16]) -> u8
+    ensures { λ r. ⌜ GenSecret set (now (seed .entry)) (now (secret .entry)) r (now (secret .exit)) ⌝ }
+{
+    sampling::gen_secret(set, seed, secret)
+}
+
+// The ring product: Q2, Q7, Q8, Q9.
+#[no_mangle]
+pub extern "C" fn saber_poly_mul(modulus: u32, a: &[u16], b: &[u16], product: &mut [u16]) -> u8
+    ensures { λ r. ⌜ Multiplied modulus (now (a .entry)) (now (b .entry)) (now (product .entry)) r (now (product .exit)) ⌝ }
+{
+    ring::poly_mul(modulus, a, b, product)
+}
+
+// Rounding of one polynomial: Q7, Q8, Q9.
+#[no_mangle]
+pub extern "C" fn saber_round(x: &[u16], rounded: &mut [u16]) -> u8
+    ensures { λ r. ⌜ Rounded (now (x .entry)) (now (rounded .entry)) r (now (rounded .exit)) ⌝ }
+{
+    ring::round(x, rounded)
+}
+
+// Reconciliation data of a polynomial: Q1, Q7, Q8, Q9.
+#[no_mangle]
+pub extern "C" fn saber_recon_data(set: u32, w: &[u16], data: &mut [u16]) -> u8
+    ensures { λ r. ⌜ ReconData set (now (w .entry)) (now («data» .entry)) r (now («data» .exit)) ⌝ }
+{
+    reconciliation::recon_data(set, w, data)
+}
+
+// Recovery of the message bits: Q1, Q7, Q8, Q9.
+#[no_mangle]
+pub extern "C" fn saber_recover(set: u32, v: &[u16], data: &[u16], bits: &mut [u16]) -> u8
+    ensures { λ r. ⌜ Recovered set (now (v .entry)) (now («data» .entry)) (now (bits .entry)) r (now (bits .exit)) ⌝ }
+{
+    reconciliation::recover(set, v, data, bits)
+}
+
+// Packs a polynomial: Q2, Q7, Q8, Q9.
+#[no_mangle]
+pub extern "C" fn saber_pack(width: u32, coefficients: &[u16], bytes: &mut [u8]) -> u8
+    ensures { λ r. ⌜ Packed width (now (coefficients .entry)) (now (bytes .entry)) r (now (bytes .exit)) ⌝ }
+{
+    packing::pack(width, coefficients, bytes)
+}
+
+// Unpacks a polynomial: Q2, Q7, Q9.
+#[no_mangle]
+pub extern "C" fn saber_unpack(width: u32, bytes: &[u8], coefficients: &mut [u16]) -> u8
+    ensures { λ r. ⌜ Unpacked width (now (bytes .entry)) (now (coefficients .entry)) r (now (coefficients .exit)) ⌝ }
+{
+    packing::unpack(width, bytes, coefficients)
+}
+
+// SHAKE-128 fills an output of any length and never refuses.
+#[no_mangle]
+pub extern "C" fn saber_shake128(input: &[u8], output: &mut [u8]) -> u8
+    ensures { λ r. ⌜ Shaken (now (input .entry)) (now (output .entry)) r (now (output .exit)) ⌝ }
+{
+    sha3::shake128(input, output)
+}
+
+// SHA3-256: Q9.
+#[no_mangle]
+pub extern "C" fn saber_sha3_256(input: &[u8], digest: &mut [u8]) -> u8
+    ensures { λ r. ⌜ Hashed 32 (sha3-256 (now (input .entry))) (now (digest .entry)) r (now (digest .exit)) ⌝ }
+{
+    sha3::sha3_256(input, digest)
+}
+
+// SHA3-512: Q9.
+#[no_mangle]
+pub extern "C" fn saber_sha3_512(input: &[u8], digest: &mut [u8]) -> u8
+    ensures { λ r. ⌜ Hashed 64 (sha3-512 (now (input .entry))) (now (digest .entry)) r (now (digest .exit)) ⌝ }
+{
+    sha3::sha3_512(input, digest)
+}
+
+// The number where the answer is 0, else 0.
+fn or_zero(answer: u8, number: usize) -> usize
+    ensures { λ r. ⌜ r ≡ orZero answer number ⌝ }
+{
+    if answer == 0 { number } else { 0 }
+}
+
+// The lookup in two numbers, since no part of a slice can be handed back here: where the public key starts in a secret key of so many bytes.
+// Both numbers are 0 where Q1 or Q5 says no.
+#[no_mangle]
+pub extern "C" fn saber_public_key_offset(set: u32, secret_key: usize) -> usize
+    ensures { λ r. ⌜ r ≡ keyOffset set «secret_key» ⌝ }
+{
+    let p = set_params(set);
+    or_zero(lookup_answer(set, secret_key), 416 * p.l)
+}
+
+// How many bytes the public key has in a secret key of so many.
+#[no_mangle]
+pub extern "C" fn saber_public_key_length(set: u32, secret_key: usize) -> usize
+    ensures { λ r. ⌜ r ≡ keyLength set «secret_key» ⌝ }
+{
+    let p = set_params(set);
+    or_zero(lookup_answer(set, secret_key), p.pk)
+}

@@ -1,0 +1,18 @@
+-- `sabercall::put_part` meets its contract: the part as a word, and the line's end.
+use mathlib.Core.Path.{refl}
+use borrow.Author.Needs.{needs}
+use Rattle.notation.specs.Loops.{puts-as, puts-then}
+use Rattle.sabercall.proofs.put_part.Statement.{statement}
+use Rattle.sabercall.proofs.put_part.Tie as tie
+
+returns : tie.Need-returns
+returns c = puts-as refl (search needs) (puts-then (c .before .before .before .before .before .before .put-bytes .ensures) (c .before .before .put-byte .ensures))
+
+pub put-part-spec : {M : Type 1} → statement M
+put-part-spec =
+    tie.close
+    (tie.spec
+    (λ c κs. search needs)
+    (λ c κs. search needs)
+    (λ c. search needs)
+    returns)

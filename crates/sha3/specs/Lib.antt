@@ -1,0 +1,3 @@
+pub mod Sponge
+pub mod Laws
+pub mod Promises

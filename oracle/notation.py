@@ -1,0 +1,116 @@
+"""The line notation of the program sabercall: a call on each line, an answer on each line.
+
+A line is a call's name and its arguments, one space between words: numbers in decimal, bytes as hex
+pairs, lists as four hex digits a coefficient, `-` for an empty string or list. An output argument is
+the content of the buffer that is lent. The answer is the call's number, then every output as it is
+after the call. Lines that begin with `#` are comments.
+
+    python3 oracle/notation.py < requests > answers
+"""
+
+import struct
+import sys
+
+import saber
+
+LONGEST = 65536
+DECIMAL = b"0123456789"
+HEXADECIMAL = b"0123456789abcdefABCDEF"
+
+
+class Unreadable(Exception):
+    """A line that is no call; its text is the reason."""
+
+
+def read_number(word):
+    if not word or any(byte not in DECIMAL for byte in word):
+        raise Unreadable("bad digit")
+    digits = word.lstrip(b"0") or b"0"
+    if len(digits) > 10 or int(digits) >= 1 << 32:
+        raise Unreadable("too large")
+    return int(digits)
+
+
+def read_hex(word, unit):
+    """The bytes of a word whose digits come in groups of `unit`."""
+    if not word:
+        raise Unreadable("bad digit")
+    if word == b"-":
+        return b""
+    if len(word) % unit:
+        raise Unreadable("odd count")
+    if any(byte not in HEXADECIMAL for byte in word):
+        raise Unreadable("bad digit")
+    return bytes.fromhex(word.decode())
+
+
+def read_bytes(word):
+    return read_hex(word, 2)
+
+
+def read_list(word):
+    string = read_hex(word, 4)
+    return list(struct.unpack(f">{len(string) // 2}H", string))
+
+
+READERS = {"number": read_number, "bytes": read_bytes, "list": read_list}
+
+
+def write_word(value):
+    if isinstance(value, int):
+        return b"%d" % value
+    string = value if isinstance(value, bytes) else struct.pack(f">{len(value)}H", *value)
+    return string.hex().encode() or b"-"
+
+
+def write_answer(number, outputs):
+    """A number of None is left out."""
+    return b" ".join(write_word(value) for value in [number, *outputs] if value is not None)
+
+
+def write_request(name, *arguments):
+    return b" ".join([name.encode(), *map(write_word, arguments)])
+
+
+def read_request(line):
+    """The call that a line names and its arguments."""
+    if len(line) > LONGEST:
+        raise Unreadable("too long")
+    name, *words = line.split(b" ")
+    call = next((call for known, call in saber.CALLS.items() if known.encode() == name), None)
+    if not call:
+        raise Unreadable("unknown call")
+    kinds = call.inputs + call.outputs
+    arguments = []
+    for i, kind in enumerate(kinds):
+        if i == len(words):
+            raise Unreadable("wrong count")
+        arguments.append(READERS[kind](words[i]))
+    if len(words) > len(kinds):
+        raise Unreadable("wrong count")
+    return call, arguments
+
+
+def answer_line(line):
+    """The answer to one line, both without newline."""
+    try:
+        call, arguments = read_request(line)
+    except Unreadable as reason:
+        return f"error {reason}".encode()
+    return write_answer(*call.run(*arguments))
+
+
+def lines_of(requests):
+    """The lines, without newlines; after a final newline there is no further line."""
+    lines = requests.split(b"\n")
+    return lines if lines[-1] else lines[:-1]
+
+
+def answer_lines(requests):
+    """What the program writes for these requests."""
+    asked = [line for line in lines_of(requests) if not line.startswith(b"#")]
+    return b"".join(answer_line(line) + b"\n" for line in asked)
+
+
+if __name__ == "__main__":
+    sys.stdout.buffer.write(answer_lines(sys.stdin.buffer.read()))

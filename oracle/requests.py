@@ -1,0 +1,697 @@
+"""Writes and checks what the programs are run on and what they must print.
+
+    python3 oracle/requests.py write     stores the requests and the answers
+    python3 oracle/requests.py check     reckons them again and compares
+
+`--to DIR` takes another root than the repository's.
+The answers are the oracle's. An answer that is known beforehand (a case of document 01, a published
+vector, a refusal, an error) is stated beside its request, and the oracle's is compared with it.
+"""
+
+import argparse
+import functools
+import itertools
+import sys
+from collections import Counter
+from pathlib import Path
+from typing import Callable, NamedTuple
+
+import notation
+import saber
+from samples import draw, draw_list, vectors
+
+NUMBERS = (0, 1, 2, 3)
+UNKNOWN_SETS = (4, 5, 4294967295)
+UNKNOWN_WIDTHS = (0, 2, 5, 12, 14, 16, 1024, 4294967295)
+UNKNOWN_MODULI = (1000, 0, 1, 13, 1023, 1025, 8191, 8193, 65536, 4294967295)
+ZERO, ONES = [0] * 256, bytes([255]) * 32
+
+
+# Lines
+
+
+class Line(NamedTuple):
+    request: bytes
+    stated: bytes | None  # the answer, where it is known beforehand
+
+
+def ask(name, *arguments, stated=None):
+    """A line that makes a call; `stated` is its number and its outputs."""
+    return Line(notation.write_request(name, *arguments), stated and notation.write_answer(*stated))
+
+
+def lent_bytes(length):
+    """What an output holds when it is lent: never 0, and different from place to place."""
+    return bytes(0xA0 + i % 16 for i in range(length))
+
+
+def lent_list(length=256):
+    return [0xA000 + i for i in range(length)]
+
+
+def monomial(place, coefficient=1):
+    return [coefficient if i == place else 0 for i in range(256)]
+
+
+def flipped(string, place):
+    """The string with one bit damaged, in the byte at that place."""
+    place %= len(string)
+    return string[:place] + bytes([string[place] ^ 1 << place % 8]) + string[place + 1 :]
+
+
+# Refusals
+
+# The question that is asked of each argument: of a number its value, else its length. 0: none.
+ASKED = {
+    "keygen": (1, 3, 3, 3, 9, 9),
+    "encaps": (1, 4, 3, 9, 9),
+    "decaps": (1, 5, 6, 9),
+    "encrypt": (1, 4, 3, 3, 9),
+    "decrypt": (1, 5, 6, 9),
+    "gen_matrix": (1, 3, 9),
+    "gen_secret": (1, 3, 9),
+    "poly_mul": (2, 7, 7, 9),
+    "round": (7, 9),
+    "recon_data": (1, 7, 9),
+    "recover": (1, 7, 7, 9),
+    "pack": (2, 7, 9),
+    "unpack": (2, 7, 9),
+    "sha3_256": (0, 9),
+    "sha3_512": (0, 9),
+}
+
+
+class Fault(NamedTuple):
+    answer: int
+    place: int
+    change: Callable
+
+
+def becomes(number):
+    return lambda value: number
+
+
+def resized(length):
+    return lambda value: (value + value)[:length]
+
+
+def put(place, coefficient):
+    return lambda numbers: [coefficient if i == place % len(numbers) else x for i, x in enumerate(numbers)]
+
+
+def refused(name, sound, *faults):
+    arguments = list(sound)
+    for fault in faults:
+        arguments[fault.place] = fault.change(arguments[fault.place])
+    outputs = arguments[len(saber.CALLS[name].inputs) :]
+    return ask(name, *arguments, stated=(min(fault.answer for fault in faults), outputs))
+
+
+def refusals(title, name, sound, unknown=(), limits={}, whole=True):
+    """The refusals of a call whose sound arguments are given: each alone and, if `whole`, two at once.
+
+    `unknown` holds numbers to refuse, `limits` the least coefficient too large for the list at a place.
+    Lengths are one under and one over and, if `whole`, 0.
+    """
+    alone, one_each = [], []
+    for place, question in enumerate(ASKED[name]):
+        if question in (1, 2):
+            faults = [Fault(question, place, becomes(number)) for number in unknown]
+        elif question:
+            size = len(sound[place])
+            lengths = (size + 1, size - 1) if question == 9 else (size - 1, size + 1)
+            faults = [Fault(question, place, resized(length)) for length in (*lengths, *([0] if whole else []))]
+        else:
+            continue
+        alone += faults
+        one_each += faults[:1]
+    for place, limit in limits.items():
+        faults = [Fault(8, place, put(at, x)) for x in (limit, 65535) for at in (0, 255)]
+        alone += faults
+        one_each.append(faults[0])
+    yield f"# {title}: each refusal alone"
+    for fault in alone:
+        yield refused(name, sound, fault)
+    if whole:
+        yield f"# {title}: two refusals at once, then all"
+        for two in itertools.combinations(one_each, 2):
+            yield refused(name, sound, *two)
+        yield refused(name, sound, *one_each)
+
+
+def unknown_sets(number):
+    """Unknown sets are asked for once, together with the arguments of set 1."""
+    return UNKNOWN_SETS if number == 1 else ()
+
+
+# The sections, one for each call
+
+
+def pack_section():
+    yield "# pack: the cases of document 01"
+    cases = ((13, [8191, 0], "ff1f"), (13, [0, 1], "0020"), (10, [0, 1], "0004"), (10, [1023], "ff03"))
+    for width, start, string in cases:
+        packed = bytes.fromhex(string).ljust(32 * width, b"\0")
+        yield ask("pack", width, start + [0] * (256 - len(start)), lent_bytes(32 * width), stated=(0, [packed]))
+    yield ask("pack", 10, monomial(0, 1024), lent_bytes(320), stated=(8, [lent_bytes(320)]))
+    for width in saber.WIDTHS:
+        limit, lent = 1 << width, lent_bytes(32 * width)
+        yield f"# pack, width {width}: random; all 0, all the largest, a ramp; the largest alone at either end"
+        for turn in range(4):
+            yield ask("pack", width, draw_list(f"pack {width} {turn}", limit), lent)
+        yield ask("pack", width, ZERO, lent, stated=(0, [bytes(32 * width)]))
+        yield ask("pack", width, [limit - 1] * 256, lent, stated=(0, [bytes([255]) * (32 * width)]))
+        yield ask("pack", width, [i % limit for i in range(256)], lent)
+        yield ask("pack", width, monomial(0, limit - 1), lent)
+        yield ask("pack", width, monomial(255, limit - 1), lent)
+        sound = [width, draw_list(f"pack {width} refused", limit), lent]
+        yield from refusals(f"pack, width {width}", "pack", sound, (5, 11), {1: limit})
+    yield "# pack: unknown widths, with buffers that would fit them"
+    for width in UNKNOWN_WIDTHS:
+        lent = lent_bytes(32 * min(width, 16))
+        yield ask("pack", width, draw_list(f"pack unknown {width}", 1 << min(width, 13)), lent, stated=(2, [lent]))
+
+
+def unpack_section():
+    for width in saber.WIDTHS:
+        size, lent = 32 * width, lent_list()
+        yield f"# unpack, width {width}: random bytes; all 0, all ones, a ramp; a bit alone at either end"
+        for turn in range(4):
+            yield ask("unpack", width, draw(f"unpack {width} {turn}", size), lent)
+        yield ask("unpack", width, bytes(size), lent, stated=(0, [ZERO]))
+        yield ask("unpack", width, bytes([255]) * size, lent, stated=(0, [[(1 << width) - 1] * 256]))
+        yield ask("unpack", width, bytes(i % 256 for i in range(size)), lent)
+        yield ask("unpack", width, b"\x01" + bytes(size - 1), lent, stated=(0, [monomial(0)]))
+        yield ask("unpack", width, bytes(size - 1) + b"\x80", lent, stated=(0, [monomial(255, 1 << width - 1)]))
+        sound = [width, draw(f"unpack {width} refused", size), lent]
+        yield from refusals(f"unpack, width {width}", "unpack", sound, (5, 11))
+        yield f"# unpack, width {width}: strings of the other widths"
+        for other in saber.WIDTHS:
+            if other != width:
+                yield ask("unpack", width, draw(f"unpack {width} {other}", 32 * other), lent, stated=(7, [lent]))
+    yield "# unpack: unknown widths, with strings that would fit them"
+    for width in UNKNOWN_WIDTHS:
+        string = draw(f"unpack unknown {width}", 32 * min(width, 16))
+        yield ask("unpack", width, string, lent_list(), stated=(2, [lent_list()]))
+
+
+def public_key_of_section():
+    for number in NUMBERS:
+        set = saber.parameters(number)
+        yield f"# public_key_of, set {number}: any secret keys"
+        for turn in range(3):
+            public_key = draw(f"lookup {number} {turn} public key", set.public_key)
+            before = draw(f"lookup {number} {turn} before", 416 * set.l)
+            after = draw(f"lookup {number} {turn} after", 64)
+            yield ask("public_key_of", number, before + public_key + after, stated=(None, [public_key]))
+        yield f"# public_key_of, set {number}: lengths 0, one under, one over, and those of the other sets"
+        size = set.secret_key
+        for length in (0, size - 1, size + 1, *(other.secret_key for other in saber.SETS.values())):
+            if length != size:
+                yield ask("public_key_of", number, draw(f"lookup {number} {length}", length), stated=(None, [b""]))
+    yield "# public_key_of: unknown sets"
+    for number, set in itertools.product(UNKNOWN_SETS, saber.SETS.values()):
+        yield ask("public_key_of", number, draw(f"lookup {number}", set.secret_key), stated=(None, [b""]))
+    yield ask("public_key_of", 4, b"", stated=(None, [b""]))
+
+
+def nist(name, *files):
+    for file in files:
+        yield f"# {name}: NIST's {file}"
+        for message, result in vectors(file):
+            yield ask(name, message, lent_bytes(len(result)), stated=(0, [result]))
+
+
+def around(rate):
+    return (0, 1, rate - 1, rate, rate + 1, 2 * rate - 1, 2 * rate, 2 * rate + 1)
+
+
+def shake128_section():
+    yield from nist("shake128", "SHAKE128ShortMsg.rsp", "SHAKE128VariableOut.rsp")
+    yield "# shake128: inputs and outputs around the rate"
+    for length, size in itertools.product(around(168), around(168)):
+        yield ask("shake128", draw(f"shake128 {length}", length), lent_bytes(size))
+    yield "# shake128: long inputs, long outputs"
+    for length, size in ((0, 5000), (32, 5000), (168, 5000), (5000, 0), (5000, 1), (5000, 168), (5000, 5000)):
+        yield ask("shake128", draw(f"shake128 {length}", length), lent_bytes(size))
+
+
+def digest_section(name, file, rate, size):
+    yield from nist(name, file)
+    yield f"# {name}: inputs around the rate, and a long one"
+    for length in (*around(rate), 5000):
+        yield ask(name, draw(f"{name} {length}", length), lent_bytes(size))
+    for length in (0, rate):
+        yield from refusals(f"{name}, input of {length}", name, [draw(f"{name} refused", length), lent_bytes(size)])
+    yield f"# {name}: a digest of the other hash's length, and a long one"
+    for wrong in (96 - size, 2 * rate):
+        yield ask(name, b"abc", lent_bytes(wrong), stated=(9, [lent_bytes(wrong)]))
+
+
+def sha3_256_section():
+    return digest_section("sha3_256", "SHA3_256ShortMsg.rsp", 136, 32)
+
+
+def sha3_512_section():
+    return digest_section("sha3_512", "SHA3_512ShortMsg.rsp", 72, 64)
+
+
+def poly_mul_section():
+    yield "# poly_mul: the cases of document 01"
+    yield ask("poly_mul", 8192, monomial(255), monomial(1), lent_list(), stated=(0, [monomial(0, 8191)]))
+    yield ask("poly_mul", 1000, monomial(0), monomial(0), lent_list(), stated=(2, [lent_list()]))
+    for modulus in saber.MODULI:
+        top, lent = modulus - 1, lent_list()
+        yield f"# poly_mul, modulus {modulus}: random"
+        for turn in range(8):
+            a = draw_list(f"poly_mul {modulus} {turn} a", modulus)
+            yield ask("poly_mul", modulus, a, draw_list(f"poly_mul {modulus} {turn} b", modulus), lent)
+        yield f"# poly_mul, modulus {modulus}: all the largest, all 0, monomials, one times a"
+        a = draw_list(f"poly_mul {modulus} a", modulus)
+        yield ask("poly_mul", modulus, [top] * 256, [top] * 256, lent)
+        yield ask("poly_mul", modulus, a, [top] * 256, lent)
+        yield ask("poly_mul", modulus, a, ZERO, lent, stated=(0, [ZERO]))
+        yield ask("poly_mul", modulus, ZERO, a, lent, stated=(0, [ZERO]))
+        yield ask("poly_mul", modulus, a, monomial(0), lent, stated=(0, [a]))
+        yield ask("poly_mul", modulus, monomial(0), a, lent, stated=(0, [a]))
+        yield ask("poly_mul", modulus, a, monomial(0, top), lent, stated=(0, [[-x % modulus for x in a]]))
+        yield ask("poly_mul", modulus, a, monomial(255), lent, stated=(0, [[-x % modulus for x in a[1:]] + a[:1]]))
+        yield ask("poly_mul", modulus, monomial(255), monomial(255), lent, stated=(0, [monomial(254, top)]))
+        yield ask("poly_mul", modulus, monomial(255, top), monomial(255, top), lent, stated=(0, [monomial(254, top)]))
+        yield ask("poly_mul", modulus, monomial(0, top), monomial(255, top), lent, stated=(0, [monomial(255)]))
+        sound = [modulus, a, draw_list(f"poly_mul {modulus} b", modulus), lent]
+        unknown, limits = UNKNOWN_MODULI if modulus == 8192 else (1000,), {1: modulus, 2: modulus}
+        yield from refusals(f"poly_mul, modulus {modulus}", "poly_mul", sound, unknown, limits)
+
+
+def round_section():
+    yield "# round: the cases of document 01"
+    yield ask("round", [3, 4, 8187, 8188] + [0] * 252, lent_list(), stated=(0, [[0, 1, 1023, 0] + [0] * 252]))
+    yield "# round: every value, then random ones"
+    for start in range(0, 8192, 256):
+        yield ask("round", list(range(start, start + 256)), lent_list())
+    for turn in range(3):
+        yield ask("round", draw_list(f"round {turn}", 8192), lent_list())
+    yield from refusals("round", "round", [draw_list("round refused", 8192), lent_list()], limits={0: 8192})
+
+
+def gen_section(name, size):
+    for number in NUMBERS:
+        set = saber.parameters(number)
+        yield f"# {name}, set {number}: a seed of 0, of ones, random ones"
+        for seed in (bytes(32), ONES, *(draw(f"{name} {number} {turn}", 32) for turn in range(3))):
+            yield ask(name, number, seed, lent_list(size(set)))
+        sound = [number, draw(f"{name} {number} refused", 32), lent_list(size(set))]
+        yield from refusals(f"{name}, set {number}", name, sound, unknown_sets(number), whole=number == 1)
+        other = saber.parameters(number % 3 + 1)
+        yield f"# {name}, set {number}: an output for another set"
+        yield ask(name, number, bytes(32), lent_list(size(other)), stated=(9, [lent_list(size(other))]))
+
+
+def gen_matrix_section():
+    return gen_section("gen_matrix", lambda set: 256 * set.l * set.l)
+
+
+def gen_secret_section():
+    return gen_section("gen_secret", lambda set: 256 * set.l)
+
+
+def recon_data_section():
+    yield "# recon_data: the case of document 01, w = 63 + 512"
+    yield ask("recon_data", 2, [575] * 256, lent_list(), stated=(0, [[8] * 256]))
+    for number in NUMBERS:
+        yield f"# recon_data, set {number}: every value, then random ones"
+        for start in range(0, 1024, 256):
+            yield ask("recon_data", number, list(range(start, start + 256)), lent_list())
+        w = draw_list(f"recon_data {number}", 1024)
+        yield ask("recon_data", number, w, lent_list())
+        sound, limits = [number, w, lent_list()], {1: 1024}
+        yield from refusals(f"recon_data, set {number}", "recon_data", sound, unknown_sets(number), limits, number == 1)
+
+
+def recover_section():
+    yield "# recover: the cases of document 01"
+    for v, bit in ((287, 1), (288, 0), (800, 1), (799, 0)):
+        yield ask("recover", 2, [v] * 256, [8] * 256, lent_list(), stated=(0, [[bit] * 256]))
+    for number in NUMBERS:
+        set = saber.parameters(number)
+        limit = 1024 // set.g
+        yield f"# recover, set {number}: around both ends of each data's range, then random"
+        ends = [(data, set.g * data - set.margin + half) for data in range(limit) for half in (0, 512)]
+        near = [(data, (v + step) % 1024) for data, v in ends for step in (-1, 0, 1)]
+        near = itertools.cycle(near)
+        for _ in range(2 if number == 3 else 1):
+            data, v = zip(*itertools.islice(near, 256))
+            yield ask("recover", number, list(v), list(data), lent_list())
+        for turn in range(3):
+            v, data = draw_list(f"recover {number} {turn} v", 1024), draw_list(f"recover {number} {turn} data", limit)
+            yield ask("recover", number, v, data, lent_list())
+        yield ask("recover", number, [1023] * 256, [limit - 1] * 256, lent_list())
+        yield ask("recover", number, ZERO, ZERO, lent_list())
+        sound, limits = [number, v, data, lent_list()], {1: 1024, 2: limit}
+        yield from refusals(f"recover, set {number}", "recover", sound, unknown_sets(number), limits, number == 1)
+
+
+@functools.cache
+def keys(number, turn):
+    """The seeds of making, and the keys; the first turns have seeds of 0 and of ones."""
+    set = saber.parameters(number)
+    drawn = [draw(f"keygen {number} {turn} {name}", 32) for name in ("matrix seed", "secret seed", "z")]
+    seeds = {0: [bytes(32)] * 3, 1: [ONES] * 3}.get(turn, drawn)
+    return seeds, *saber.key_pair(set, *seeds)
+
+
+@functools.cache
+def capsule(number, turn):
+    """The seed of sealing to the key of that turn, the ciphertext and the shared secret."""
+    seed = {0: bytes(32), 1: ONES}.get(turn, draw(f"encaps {number} {turn}", 32))
+    return seed, *saber.sealed(saber.parameters(number), keys(number, turn)[1], seed)
+
+
+def scheme_refusals(name, sound_of):
+    """The refusals of a call of the scheme, whose sound arguments for a set `sound_of` gives."""
+    for number in NUMBERS:
+        yield from refusals(f"{name}, set {number}", name, sound_of(number), unknown_sets(number), whole=number == 1)
+        yield f"# {name}, set {number}: the arguments of another set"
+        other = sound_of(number % 3 + 1)
+        lengths = zip(ASKED[name][1:], sound_of(number)[1:], other[1:])
+        answer = min(question for question, ours, theirs in lengths if len(ours) != len(theirs))
+        yield ask(name, number, *other[1:], stated=(answer, other[len(saber.CALLS[name].inputs) :]))
+
+
+def keygen_section():
+    def sound(number, turn=2):
+        set = saber.parameters(number)
+        return [number, *keys(number, turn)[0], lent_bytes(set.public_key), lent_bytes(set.secret_key)]
+
+    for number in NUMBERS:
+        yield f"# keygen, set {number}: seeds of 0, of ones, random ones"
+        for turn in range(8):
+            yield ask("keygen", *sound(number, turn))
+    yield from scheme_refusals("keygen", sound)
+
+
+def encaps_section():
+    def sound(number, turn=2):
+        lent = [lent_bytes(saber.parameters(number).ciphertext), lent_bytes(32)]
+        return [number, keys(number, turn)[1], capsule(number, turn)[0], *lent]
+
+    yield "# encaps: the cases of document 01"
+    lent = [lent_bytes(1088), lent_bytes(32)]
+    for number, size, length, answer in ((2, 991, 32, 4), (2, 993, 32, 4), (4, 992, 32, 1), (4, 992, 31, 1)):
+        yield ask("encaps", number, draw("encaps case", size), bytes(length), *lent, stated=(answer, lent))
+    yield ask("encaps", 2, draw("encaps case", 992), bytes(32), *lent)
+    for number in NUMBERS:
+        yield f"# encaps, set {number}: to keys that keygen makes"
+        for turn in range(8):
+            yield ask("encaps", *sound(number, turn))
+        yield f"# encaps, set {number}: to any bytes as a public key"
+        size = saber.parameters(number).public_key
+        for public_key in (draw(f"encaps {number} any", size), bytes(size), bytes([255]) * size):
+            yield ask("encaps", number, public_key, *sound(number)[2:])
+    yield from scheme_refusals("encaps", sound)
+
+
+def decaps_section():
+    def sound(number, turn=2):
+        return [number, keys(number, turn)[2], capsule(number, turn)[1], lent_bytes(32)]
+
+    for number in NUMBERS:
+        set, lent = saber.parameters(number), lent_bytes(32)
+        yield f"# decaps, set {number}: ciphertexts that encaps makes"
+        for turn in range(8):
+            yield ask("decaps", *sound(number, turn), stated=(0, [capsule(number, turn)[2]]))
+        _, secret_key, ciphertext, _ = sound(number)
+        shared_secret, data = capsule(number, 2)[2], 320 * set.l
+        yield f"# decaps, set {number}: a bit damaged in each polynomial of the ciphertext, then in the data"
+        for place in (*range(0, data, 320), data - 1, data, set.ciphertext - 1):
+            yield ask("decaps", number, secret_key, flipped(ciphertext, place), lent)
+        yield f"# decaps, set {number}: any bytes as a ciphertext"
+        size = set.ciphertext
+        for other in (draw(f"decaps {number} any", size), bytes(size), bytes([255]) * size):
+            yield ask("decaps", number, secret_key, other, lent)
+        yield f"# decaps, set {number}: a secret key damaged in s, b, the matrix seed and the hash"
+        for place in (0, set.plain_secret - 1, set.plain_secret, -97, -96, -64):
+            yield ask("decaps", number, flipped(secret_key, place), ciphertext, lent)
+        yield f"# decaps, set {number}: damaged in z, which tells with a damaged ciphertext only"
+        yield ask("decaps", number, flipped(secret_key, -1), ciphertext, lent, stated=(0, [shared_secret]))
+        yield ask("decaps", number, flipped(secret_key, -32), flipped(ciphertext, 7), lent)
+        yield f"# decaps, set {number}: secret coefficients of any 13 bits, all the largest; any bytes as a secret key"
+        for plain in (draw(f"decaps {number} plain", set.plain_secret), bytes([255]) * set.plain_secret):
+            yield ask("decaps", number, plain + secret_key[set.plain_secret :], ciphertext, lent)
+        yield ask("decaps", number, draw(f"decaps {number} secret key", set.secret_key), ciphertext, lent)
+    yield from scheme_refusals("decaps", sound)
+
+
+def encrypt_section():
+    def sound(number, turn=2):
+        drawn = [draw(f"encrypt {number} {turn} {name}", 32) for name in ("message", "seed")]
+        message_and_seed = {0: [bytes(32)] * 2, 1: [ONES] * 2}.get(turn, drawn)
+        return [number, keys(number, turn)[1], *message_and_seed, lent_bytes(saber.parameters(number).ciphertext)]
+
+    for number in NUMBERS:
+        yield f"# encrypt, set {number}: messages and seeds of 0, of ones, random ones"
+        for turn in range(8):
+            yield ask("encrypt", *sound(number, turn))
+        yield f"# encrypt, set {number}: to any bytes as a public key"
+        size = saber.parameters(number).public_key
+        for public_key in (draw(f"encrypt {number} any", size), bytes([255]) * size):
+            yield ask("encrypt", number, public_key, *sound(number)[2:])
+    yield from scheme_refusals("encrypt", sound)
+
+
+def decrypt_section():
+    def sound(number, turn=2):
+        set = saber.parameters(number)
+        return [number, keys(number, turn)[2][: set.plain_secret], capsule(number, turn)[1], lent_bytes(32)]
+
+    for number in NUMBERS:
+        set, lent = saber.parameters(number), lent_bytes(32)
+        yield f"# decrypt, set {number}: ciphertexts that encaps makes"
+        for turn in range(4):
+            yield ask("decrypt", *sound(number, turn), stated=(0, [saber.SHA3_256(capsule(number, turn)[0])]))
+        yield f"# decrypt, set {number}: random messages"
+        for turn in range(4):
+            message = draw(f"decrypt {number} {turn} message", 32)
+            ciphertext = saber.encrypted(set, keys(number, turn)[1], message, draw(f"decrypt {number} {turn} seed", 32))
+            yield ask("decrypt", number, sound(number, turn)[1], ciphertext, lent, stated=(0, [message]))
+        yield f"# decrypt, set {number}: secret coefficients of any 13 bits, any bytes as a ciphertext"
+        for turn in range(3):
+            plain_secret = draw(f"decrypt {number} {turn} plain secret", set.plain_secret)
+            ciphertext = draw(f"decrypt {number} {turn} ciphertext", set.ciphertext)
+            yield ask("decrypt", number, plain_secret, ciphertext, lent)
+        yield ask("decrypt", number, bytes([255]) * set.plain_secret, bytes([255]) * set.ciphertext, lent)
+        yield ask("decrypt", number, bytes(set.plain_secret), bytes([255]) * set.ciphertext, lent)
+    yield from scheme_refusals("decrypt", sound)
+
+
+SECTIONS = {
+    "pack": pack_section,
+    "unpack": unpack_section,
+    "public_key_of": public_key_of_section,
+    "shake128": shake128_section,
+    "sha3_256": sha3_256_section,
+    "sha3_512": sha3_512_section,
+    "poly_mul": poly_mul_section,
+    "round": round_section,
+    "gen_matrix": gen_matrix_section,
+    "gen_secret": gen_secret_section,
+    "recon_data": recon_data_section,
+    "recover": recover_section,
+    "keygen": keygen_section,
+    "encrypt": encrypt_section,
+    "decrypt": decrypt_section,
+    "encaps": encaps_section,
+    "decaps": decaps_section,
+}
+
+
+# The notation's own errors
+
+
+def unreadable(reason, *lines):
+    for line in lines:
+        yield Line(line, f"error {reason}".encode())
+
+
+def normal():
+    """A line that is read normally."""
+    yield Line(b"pack 5 - a5a6", b"2 a5a6")
+
+
+def padded(line, length):
+    """The line filled up to a length with a digit."""
+    return line.ljust(length, b"5")
+
+
+def notation_section():
+    yield "# notation: a first word that is no call's name"
+    yield from unreadable(
+        "unknown call",
+        b"", b" ", b"  ", b" pack 5 - -", b"no_such_call", b"no_such_call 1 2 3", b"no_such_call \xff",
+        b"Pack 5 - -", b"PACK 5 - -", b"pac 5 - -", b"packs 5 - -", b"pack,5,-,-", b"-", b"0", b"error",
+        b"pack\t5 - -", b"pack\r", b"\r", b"pack\0 5 - -", b"\0", b"\xff\xfe",
+        b"\xef\xbb\xbfpack 5 - -", b" # no comment", b"public_key", b"public_key_of_ 1 -",
+        b"unpack_ 5 - -",
+    )
+    yield from normal()
+
+    yield "# notation: too few words, too many, a space at the end"
+    yield from unreadable(
+        "wrong count",
+        b"pack", b"pack 5", b"pack 5 -", b"unpack 13 00", b"public_key_of", b"public_key_of 2",
+        b"pack 5 - - -", b"pack 5 - - ", b"pack 5 - -  ", b"public_key_of 2 - 00",
+        b"public_key_of 2 00 ", b"pack 13 0001 02 x", b"unpack 5 - - \xff",
+    )
+    yield from normal()
+
+    yield "# notation: numbers with a bad digit, empty ones among them"
+    yield from unreadable(
+        "bad digit",
+        b"pack x - -", b"pack 1x - -", b"pack x1 - -", b"pack -1 - -", b"pack +1 - -", b"pack - - -",
+        b"pack 0x1 - -", b"pack 1.0 - -", b"pack 1_0 - -", b"pack / - -", b"pack : - -", b"pack a - -",
+        b"pack 1\t - -", b"pack 1\r - -", b"pack 1\0 - -", b"pack \xff - -", b"pack \xd9\xa3 - -",
+        b"pack  - -", b"pack  5 - -", b"pack ", b"public_key_of ", b"pack 99999999999999999999x - -",
+        b"pack x99999999999999999999 - -", b"pack 4294967296- - -", b"pack " + b"9" * 5000 + b"x - -",
+    )
+    yield from normal()
+
+    yield "# notation: numbers of 2 to the 32 and more"
+    yield from unreadable(
+        "too large",
+        b"pack 4294967296 - -", b"pack 4294967301 - -", b"pack 4294967306 - -",
+        b"pack 00004294967296 - -", b"pack 9999999999 - -", b"pack 10000000000 - -",
+        b"pack 42949672960 - -", b"pack 18446744073709551629 - -", b"pack 18446744073709551616 - -",
+        b"public_key_of 340282366920938463463374607431768211458 -", b"pack 1" + b"0" * 5000 + b" - -",
+    )
+    yield from normal()
+
+    yield "# notation: the largest number, and numbers with zeros in front"
+    yield Line(b"pack 4294967295 - a5", b"2 a5")
+    yield Line(b"pack 00000000000000000000000005 - a5", b"2 a5")
+    yield Line(b"pack " + b"0" * 5000 + b"10 - a5", b"7 a5")
+    yield Line(b"pack 010 - a5", b"7 a5")
+    yield Line(b"pack 00 - a5", b"2 a5")
+
+    yield "# notation: bytes and lists whose digits do not come out even"
+    yield from unreadable(
+        "odd count",
+        b"unpack 5 0 -", b"unpack 5 abc -", b"unpack 5 - 0", b"unpack 5 - 00", b"unpack 5 - 000",
+        b"unpack 5 - 00000", b"pack 5 0 -", b"pack 5 12 -", b"pack 5 123 -", b"pack 5 123456 -",
+        b"pack 5 - 0", b"pack 5 - 000", b"public_key_of 2 0", b"public_key_of 9 000", b"unpack 5 x -",
+        b"unpack 5 xyz -", b"pack 5 -- -", b"pack 5 zz -", b"pack 5 000g1 -", b"unpack 5 --- -",
+    )
+    yield from normal()
+
+    yield "# notation: bytes and lists with a bad digit, empty ones among them"
+    yield from unreadable(
+        "bad digit",
+        b"unpack 5 0g -", b"unpack 5 g0 -", b"unpack 5 -- -", b"unpack 5 -0 -", b"unpack 5 0- -",
+        b"unpack 5 0x -", b"unpack 5 0/ -", b"unpack 5 0: -", b"unpack 5 0@ -", b"unpack 5 0G -",
+        b"unpack 5 0` -", b"unpack 5 \xff\xff -", b"unpack 5 0\r -", b"unpack 5 \0\0 -", b"unpack 5  -",
+        b"unpack 5 ", b"unpack 5 - ", b"unpack 5  - -", b"pack 5 000g -", b"pack 5 g000 -",
+        b"pack 5 ---- -", b"pack 5 0x10 -", b"pack 5 00000-00 -", b"pack 5  -", b"pack 5 - ",
+        b"pack 5 - \t\t", b"public_key_of 2 ", b"public_key_of 2 zz",
+        b"unpack 5 00112233445566778899aabb0g -",
+    )
+    yield from normal()
+
+    yield "# notation: the first fault from the left wins"
+    yield from unreadable(
+        "bad digit",
+        b"pack x 0 0", b"pack x 0", b"pack x", b"pack 5 000g 0", b"pack 5 000g", b"pack 5 - gg -",
+    )
+    yield from unreadable(
+        "too large",
+        b"pack 5000000000 zz", b"pack 5000000000", b"pack 5000000000 - - -",
+        b"public_key_of 5000000000 0",
+    )
+    yield from unreadable(
+        "odd count",
+        b"pack 5 zz", b"pack 5 zz gg", b"pack 5 - 0 -", b"unpack 5 0 gggg", b"unpack 5 00 zz -",
+    )
+    yield from unreadable("wrong count", b"pack 5 0000", b"pack 5 - 00 zz", b"public_key_of 4 - x")
+    yield from unreadable("unknown call", b"no_such_call x", b"no_such_call 5000000000 0 ")
+    yield from normal()
+
+    yield "# notation: both cases of hex digits"
+    string = draw("notation", 32)
+    lower, mixed = string.hex(), "".join(x.upper() if i % 3 else x for i, x in enumerate(string.hex()))
+    stated = notation.write_answer(0, [[string[i // 8] >> i % 8 & 1 for i in range(256)]])
+    for digits in (lower, lower.upper(), mixed):
+        yield Line(f"unpack 1 {digits} {'aBcD' * 256}".encode(), stated)
+    yield Line(b"pack 5 ABCDEFabcdef A5B6c7D8", b"2 a5b6c7d8")
+    yield Line(b"unpack 5 ABCDEFabcdef ABCDEFabcdef0189", b"2 abcdefabcdef0189")
+
+    yield "# notation: comments give no line, of whatever they are made"
+    yield "#"
+    yield "##"
+    yield "#pack 5 - a5a6"
+    yield "#\0\xff\r"
+    yield "# a comment of 70000 bytes " + "#" * 69973
+    yield from normal()
+
+    yield "# notation: lines of 65536 bytes, and longer ones"
+    yield Line(padded(b"unpack 13 - ", 65536), padded(b"7 ", 65526))
+    yield from unreadable("too long", padded(b"public_key_of 2 ", 65537))
+    yield from normal()
+    yield from unreadable("unknown call", padded(b"no_such_call ", 65536))
+    yield from unreadable("too long", padded(b"no_such_call ", 131073))
+    yield from normal()
+
+    yield "# notation: the last line has no newline"
+    yield from normal()
+
+
+# The files
+
+
+def sabercall():
+    """The requests, their answers, how many of them were stated, and how many there are to each call."""
+    sections = [section() for section in SECTIONS.values()] + [notation_section()]
+    parts = ["# Requests to sabercall, written by oracle/requests.py.", *itertools.chain(*sections)]
+    lines = [part for part in parts if isinstance(part, Line)]
+    requests = b"\n".join(part.request if isinstance(part, Line) else part.encode("latin-1") for part in parts)
+    answers = notation.answer_lines(requests)
+
+    given = answers.split(b"\n")[:-1]
+    assert len(given) == len(lines), "each line has its answer"
+    for line, answer in zip(lines, given):
+        if line.stated not in (None, answer):
+            sys.exit(f"stated otherwise: {line.request[:80]!r} gives {answer[:80]!r}, not {line.stated[:80]!r}")
+    stated = sum(line.stated is not None for line in lines)
+    kinds = Counter()
+    for line, answer in zip(lines, given):
+        kinds["error" if answer.startswith(b"error") else line.request.split()[0].decode()] += 1
+    return requests, answers, stated, kinds
+
+
+def main():
+    options = argparse.ArgumentParser()
+    options.add_argument("action", choices=("write", "check"))
+    options.add_argument("--to", type=Path, default=Path(__file__).resolve().parent.parent)
+    options = options.parse_args()
+
+    requests, answers, stated, kinds = sabercall()
+    files = {
+        "crates/sabercall/stdin": requests,
+        "crates/sabercall/stdout": answers,
+        "crates/saberset/stdout": saber.table().encode(),
+    }
+    different = 0
+    for name, content in files.items():
+        path = options.to / name
+        if options.action == "write":
+            path.parent.mkdir(parents=True, exist_ok=True)
+            path.write_bytes(content)
+        elif not path.is_file() or path.read_bytes() != content:
+            different += 1
+            print(f"{name}: different")
+        print(f"{name}: {len(content)} bytes")
+    print(", ".join(f"{name} {count}" for name, count in kinds.items()))
+    print(f"{options.action}: {kinds.total()} answers, {stated} of them stated beforehand, {different} files different")
+    return 1 if different else 0
+
+
+if __name__ == "__main__":
+    sys.exit(main())
