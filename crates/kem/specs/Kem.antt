@@ -1,4 +1,5 @@
--- Document 01, "Steps": making keys, sealing and unsealing, of the set whose row in the table is p, and what the three calls answer.
+-- Document 01, "Steps": making keys, sealing (encapsulation) and unsealing (decapsulation), of the set whose row in the table is p, and what
+-- the three calls answer.
 use Prim.Native.Nat.{ℕ, _+_, _*_}
 use mathlib.Core.Bool.{true, cond, _&&_}
 use mathlib.Core.List.{List, _++_}
@@ -14,7 +15,7 @@ use Rattle.sha3.specs.Sponge.{shake128, sha3-256, sha3-512}
 use Rattle.pke.specs.Pke.{roundedVector, encrypted, decrypted}
 use Rattle.kem.specs.Same.{same}
 
--- k and r, the two halves of SHA3-512 of m followed by the hash of the public key
+-- k and r, the first and the second half of SHA3-512 of m followed by the hash of the public key
 abbrev pub keyOf : List ℕ → List ℕ → List ℕ
 keyOf m hash = take 32 (sha3-512 (m ++ hash))
 
@@ -33,7 +34,8 @@ abbrev pub messageOf : List ℕ → List ℕ
 messageOf seed = sha3-256 seed
 
 module _ (p : Params) where
-  -- the public key: b, the rounded product of the transposed matrix and s, in 10 bits, then the stored matrix seed, the 32 bytes that SHAKE-128 makes of the given one
+  -- the public key: b, the rounded product of the transposed matrix and s, in 10 bits; then the stored matrix seed, the 32 bytes that
+  -- SHAKE-128 makes of the given one
   unfoldable pub publicKey : List ℕ → List ℕ → List ℕ
   publicKey matrixSeed secretSeed =
       let stored : List ℕ = shake128 matrixSeed 32 in
@@ -69,12 +71,14 @@ module _ (p : Params) where
   abbrev pub zPart : List ℕ → List ℕ
   zPart sk = drop (416 * p .l + p .pk + 32) sk
 
-  -- unsealing: the decrypted m is encrypted again with the stored hash and public key, and the ciphertexts are compared over all bytes
+  -- unsealing: the decrypted m is encrypted again with the stored hash and public key, and the ciphertexts are compared over all bytes;
+  -- the shared secret where they are equal, else the rejected one
   unfoldable pub unsealedSecret : List ℕ → List ℕ → List ℕ
   unsealedSecret sk ct =
       let m : List ℕ = decrypted p (plainPart sk) ct in
       let k : List ℕ = keyOf m (hashPart sk) in
-      cond (same (encrypted p (keyPart sk) m (coinsOf m (hashPart sk))) ct) (sharedSecret k ct) (rejectedSecret k (zPart sk))
+      let again : List ℕ = encrypted p (keyPart sk) m (coinsOf m (hashPart sk)) in
+      cond (same again ct) (sharedSecret k ct) (rejectedSecret k (zPart sk))
 
 -- what making keys answers: Q1, Q3, Q9, by the set number and the lengths
 abbrev pub keygenAnswer : ℕ → ℕ → ℕ → ℕ → ℕ → ℕ → ℕ

@@ -1,4 +1,5 @@
--- What making keys, sealing and unsealing promise, and what the functions beneath them ask and give: r is the answer, a primed list is an output at exit.
+-- What making keys, encapsulation and decapsulation promise, and what the functions beneath them ask and give.
+-- r is the answer, a primed list is an output at exit. A `Room` is what a function asks of the lengths, a `Space` the same with those of lent places.
 use Prim.Native.Nat.{ℕ, _+_, _*_, _≤_}
 use mathlib.Core.List.{List}
 use mathlib.Core.Path.{_≡_}
@@ -9,21 +10,24 @@ use Rattle.sets.specs.Sets.{paramsOf}
 use Rattle.pke.specs.Promises.{Valid}
 use Rattle.kem.specs.Kem.{publicKey, secretKey, sealedCiphertext, sealedSecret, unsealedSecret, keygenAnswer, encapsAnswer, decapsAnswer}
 
+-- making keys: its answer, and its outputs at exit
 pub record Made (set : ℕ) (matrixSeed secretSeed z pk sk : List ℕ) (r : ℕ) (pk' sk' : List ℕ) : Type 0 where
   pub answer : r ≡ keygenAnswer set (length matrixSeed) (length secretSeed) (length z) (length pk) (length sk)
   pub public : pk' ≡ written r (publicKey (paramsOf set) matrixSeed secretSeed) pk
   pub secret : sk' ≡ written r (secretKey (paramsOf set) matrixSeed secretSeed z) sk
 
+-- encapsulation: its answer, and its outputs at exit
 pub record Encapsulated (set : ℕ) (pk seed ct ss : List ℕ) (r : ℕ) (ct' ss' : List ℕ) : Type 0 where
   pub answer : r ≡ encapsAnswer set (length pk) (length seed) (length ct) (length ss)
   pub ciphertext : ct' ≡ written r (sealedCiphertext (paramsOf set) pk seed) ct
   pub sharedSecret : ss' ≡ written r (sealedSecret (paramsOf set) pk seed) ss
 
+-- decapsulation: its answer, and its output at exit
 pub record Decapsulated (set : ℕ) (sk ct ss : List ℕ) (r : ℕ) (ss' : List ℕ) : Type 0 where
   pub answer : r ≡ decapsAnswer set (length sk) (length ct) (length ss)
   pub sharedSecret : ss' ≡ written r (unsealedSecret (paramsOf set) sk ct) ss
 
--- the parts of the keys
+-- the keys and their parts
 pub record PublicRoom (l secret pk : ℕ) : Type 0 where
   pub few : l ≤ 4
   pub secretLong : secret ≡ 256 * l
@@ -43,7 +47,7 @@ pub record SecretRoom (l secret pk z sk : ℕ) : Type 0 where
   pub zLong : z ≡ 32
   pub skLong : sk ≡ 416 * l + (pk + 64)
 
--- the work of the calls at the set's lengths
+-- the calls at the set's lengths
 pub record KeygenRoom (p : Params) (z pk sk : ℕ) : Type 0 where
   pub valid : Valid p
   pub zLong : z ≡ 32

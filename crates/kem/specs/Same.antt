@@ -1,4 +1,4 @@
--- Whether two strings hold the same bytes: the comparison of unsealing, and its laws.
+-- The comparison of decapsulation, over all bytes, and its laws.
 use Prim.Native.Nat.{ℕ, zero, suc, _+_, _<_, _≤_}
 use mathlib.Core.Bool.{Bool, true, false, _&&_}
 use mathlib.Core.List.{List, [], _∷_}
@@ -10,6 +10,7 @@ use lib.ListN.{length, take, getD}
 use lib.Seq.{take-all}
 use borrow.Author.Tests.{eq-eqb}
 
+-- whether two strings hold the same bytes
 unfoldable pub same : List ℕ → List ℕ → Bool
 same [] [] = true
 same [] (y ∷ ys) = false
@@ -29,7 +30,7 @@ and-assoc : (a b c : Bool) → a && (b && c) ≡ (a && b) && c
 and-assoc true b c = refl
 and-assoc false b c = refl
 
--- one byte more
+-- the first bytes, and one more
 front-more :
     (a b : List ℕ) (i : ℕ) → i < length a → i < length b →
     same (take (suc i) a) (take (suc i) b) ≡ same (take i a) (take i b) && eqb (getD a i 0) (getD b i 0)
@@ -45,6 +46,6 @@ pub same-more :
     equal && eqb (getD a i 0) (getD b i 0) ≡ same (take (i + 1) a) (take (i + 1) b)
 same-more a b i equal h l e = rw (e, add-one i) (sym (front-more a b i h (omega arith)))
 
--- all of them
+-- all bytes
 pub same-all : (a b : List ℕ) (i : ℕ) → length a ≤ i → length a ≡ length b → same (take i a) (take i b) ≡ same a b
 same-all a b i h l = rw (take-all i a h, take-all i b (omega arith))

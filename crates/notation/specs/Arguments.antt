@@ -1,23 +1,21 @@
 -- Laws of arguments: what a reader promises in each case.
-use Prim.Native.Nat.{ℕ, _+_, _-_, _*_, _/_, _%_, _≤_, _<_}
+use Prim.Native.Nat.{ℕ, _+_, _-_, _/_, _%_, _≤_, _<_}
 use mathlib.Core.Bool.{Bool, true, false, cond, _&&_}
 use mathlib.Core.List.{List, [], _++_}
 use mathlib.Core.Path.{_≡_, refl, sym, ap, ap₂, _∙_}
 use native.Mathlib.Omega.{arith}
 use native.Mathlib.Nat.{mul-zero, div-add-mod}
-use lib.Dec.{eqb, ltb}
 use lib.ListN.{length, take, drop}
 use lib.Seq.{take-at}
 use borrow.Author.Tests.{lt-ltb, le-ltb, eq-eqb, ne-eqb}
 use Rattle.notation.specs.declared.Cursor.{Cursor}
 use Rattle.notation.specs.declared.Word.{Word}
-use Rattle.notation.specs.declared.Number.{Number}
 use Rattle.notation.specs.declared.Decimal.the-variants.{Value, None}
 use Rattle.notation.specs.declared.Reason.{Reason}
 use Rattle.notation.specs.declared.Reason.the-variants.{WrongCount, BadDigit, OddCount}
 use Rattle.notation.specs.declared.Reading.{Reading}
 use Rattle.notation.specs.declared.Reading.the-variants.{Sound, Unreadable}
-use Rattle.notation.specs.Notation.{wordAt, allDigits, isDash, isSound, Spelled, list, fault, spelled, Taken, takenWord, word, argument, decimalOf, numberWord, readNumber}
+use Rattle.notation.specs.Notation.{wordAt, allDigits, isDash, isSound, list, fault, spelled, Taken, takenWord, word, argument, decimalOf, numberWord, readNumber}
 use Rattle.notation.specs.Laws.{word-part}
 use Rattle.notation.specs.Promises.{noDigits, Spells, WordEnd, Digits, Reads, ReadsNumber}
 

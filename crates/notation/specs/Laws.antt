@@ -1,19 +1,20 @@
--- Laws of the notation: what was shown is read back, and what a loop over a line or a word has left to do.
-use Prim.Native.Nat.{ℕ, zero, suc, _+_, _-_, _*_, _/_, _%_, _≤_, _<_, min}
+-- Laws of the notation: what was shown is read back, and the cases of each definition.
+use Prim.Native.Nat.{ℕ, _+_, _-_, _*_, _/_, _%_, _≤_, _<_, min}
 use mathlib.Core.Bool.{Bool, true, false, cond, _&&_}
-use mathlib.Core.List.{List, [], _∷_, _++_, map}
+use mathlib.Core.List.{List, [], _∷_, map}
 use mathlib.Core.Path.{_≡_, refl, sym, ap, ap₂, _∙_}
 use native.Mathlib.Omega.{arith}
 use native.Mathlib.Decide.{decLe, decLt}
-use native.Mathlib.Nat.{div-add-mod', mod-lt, div-lt-iff-lt-mul, add-zero}
+use native.Mathlib.Nat.{div-add-mod', mod-lt, div-lt-iff-lt-mul}
 use native.Mathlib.Numerals.{add-one}
 use lib.Dec.{eqb, leb, ltb}
-use lib.ListN.{length, getD, set, take, drop, length-set, length-map, drop-of-length-le}
-use lib.Seq.{sets, set-out, drop-cons}
+use lib.ListN.{length, getD, take, drop, length-map, drop-of-length-le}
+use lib.Seq.{drop-cons}
 use borrow.Author.Tests.{lt-ltb, le-ltb, le-leb, lt-leb, eq-eqb, ne-eqb, ltb-true}
+use Rattle.notation.specs.declared.Decimal.the-variants.{Value}
 use Rattle.questions.specs.Answers.{allBelow}
 use Rattle.questions.specs.Laws.{and-left, and-right}
-use Rattle.notation.specs.Notation.{until, wordAt, digitValue, pairValue, allDigits, hexDigit, split, join, hexOfBytes, hexOfCoefficients, bytesOfHex, coefficientsOfHex, shown, isDash, Spelled, list, fault, spelled, decimalFrom, decimal}
+use Rattle.notation.specs.Notation.{until, wordAt, digitValue, pairValue, allDigits, hexDigit, split, join, hexOfBytes, hexOfCoefficients, bytesOfHex, coefficientsOfHex, shown, list, spelled, decimalFrom, decimalOf, decimal}
 
 -- numbers in two digits each
 pub length-split : (base : ℕ) (xs : List ℕ) → length (split base xs) ≡ 2 * length xs
@@ -155,15 +156,6 @@ module _ (stop : ℕ) (l : List ℕ) (k : ℕ) where
   unfolding until
   until-end h = rw (drop-of-length-le l h) refl
 
-pub length-until : (stop : ℕ) (l : List ℕ) → length (until stop l) ≤ length l
-unfolding until
-length-until stop [] = omega arith
-length-until stop (b ∷ bs) = go (eqb b stop) (length-until stop bs)
-  where
-    go : (t : Bool) → length (until stop bs) ≤ length bs → length (cond t [] (b ∷ until stop bs)) ≤ suc (length bs)
-    go true h = omega arith
-    go false h = omega arith
-
 pub take-until : (stop : ℕ) (l : List ℕ) → take (length (until stop l)) l ≡ until stop l
 unfolding until
 take-until stop [] = refl
@@ -231,20 +223,39 @@ module _ (x : ℕ) where
   pub decimal-three : 100 ≤ x → decimal x ≡ (48 + x / 100) ∷ (48 + x / 10 % 10) ∷ (48 + x % 10) ∷ []
   decimal-three h = simp (le-ltb x 10 (omega arith), le-ltb x 100 h)
 
+-- a number that is shown in decimal is read back
+pub decimal-as : (word : List ℕ) (v : ℕ) → 0 < length word → allDigits 10 word ≡ true → decimalFrom 0 word ≡ v → v < 4294967296 → decimalOf word ≡ Value v
+decimal-as word v some good e h = simp (ne-eqb (length word) 0 (λ q. omega arith), good, e, lt-ltb v 4294967296 h)
+
+figure : (d : ℕ) → d < 10 → digitValue (48 + d) ≡ d
+figure d h = omega (arith, value-figure (48 + d) (omega arith) (omega arith))
+
+pub decimal-back : (x : ℕ) → x < 256 → decimalOf (decimal x) ≡ Value x
+unfolding allDigits decimalFrom
+decimal-back x h = go (decLt x 10) (decLt x 100)
+  where
+    go : Dec (x < 10) → Dec (x < 100) → decimalOf (decimal x) ≡ Value x
+    go (yes p) q =
+        let f = figure x p in
+        rw (decimal-one x p) (decimal-as ((48 + x) ∷ []) x (omega arith) (simp (f, lt-ltb x 10 p)) (omega arith) (omega arith))
+    go (no p) (yes q) =
+        let f = figure (x / 10) (omega arith) in
+        let g = figure (x % 10) (omega arith) in
+        rw (decimal-two x (omega arith) q)
+        (decimal-as ((48 + x / 10) ∷ (48 + x % 10) ∷ []) x (omega arith) (simp (f, g, lt-ltb (x / 10) 10 (omega arith), lt-ltb (x % 10) 10 (omega arith))) (omega arith) (omega arith))
+    go (no p) (no q) =
+        let f = figure (x / 100) (omega arith) in
+        let g = figure (x / 10 % 10) (omega arith) in
+        let k = figure (x % 10) (omega arith) in
+        rw (decimal-three x (omega arith))
+        (decimal-as ((48 + x / 100) ∷ (48 + x / 10 % 10) ∷ (48 + x % 10) ∷ []) x (omega arith)
+        (simp (f, g, k, lt-ltb (x / 100) 10 (omega arith), lt-ltb (x / 10 % 10) 10 (omega arith), lt-ltb (x % 10) 10 (omega arith)))
+        (omega arith)
+        (omega arith))
+
 -- a number that is capped on the way is as capped at the end
 pub capped-from : (c v : ℕ) (ds : List ℕ) → min (decimalFrom (min v c) ds) c ≡ min (decimalFrom v ds) c
 unfolding decimalFrom
 capped-from c v [] = omega arith
 capped-from c v (d ∷ ds) =
     sym (capped-from c (min v c * 10 + digitValue d) ds) ∙ ap (λ x. min (decimalFrom x ds) c) (omega arith) ∙ capped-from c (v * 10 + digitValue d) ds
-
--- text put in two pieces is put in one
-pub sets-append : (l : List ℕ) (i : ℕ) (xs ys : List ℕ) → sets (sets l i xs) (i + length xs) ys ≡ sets l i (xs ++ ys)
-sets-append l i [] ys = ap (λ k. sets l k ys) (add-zero i)
-sets-append l i (x ∷ xs) ys =
-    ap (λ k. sets (sets (set l i x) (suc i) xs) k ys) (omega arith) ∙ sets-append (set l i x) (suc i) xs ys
-
--- text past the end is dropped
-pub sets-out : (l : List ℕ) (i : ℕ) (vs : List ℕ) → length l ≤ i → sets l i vs ≡ l
-sets-out l i [] h = refl
-sets-out l i (v ∷ vs) h = ap (λ t. sets t (suc i) vs) (set-out l i v h) ∙ sets-out l (suc i) vs (omega arith)

@@ -1,5 +1,6 @@
 pub mod Notation
-pub mod Laws
 pub mod Promises
+pub mod Laws
+pub mod Text
 pub mod Loops
 pub mod Arguments

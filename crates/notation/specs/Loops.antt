@@ -1,21 +1,19 @@
 -- What each loop has left to do: a record that holds at each turn, that it holds at the start, after one more turn, and what it gives at the end.
-use Prim.Native.Nat.{ℕ, zero, suc, _+_, _-_, _*_, _/_, _%_, _≤_, _<_, min}
-use mathlib.Core.Bool.{Bool, true, false, cond, _&&_, false≢true}
+use Prim.Native.Nat.{ℕ, suc, _+_, _*_, _≤_, _<_, min}
+use mathlib.Core.Bool.{true, false, false≢true}
 use mathlib.Core.List.{List, [], _∷_, _++_, append-assoc, append-nil}
 use mathlib.Core.Path.{_≡_, refl, sym, ap, ap₂, _∙_}
 use native.Mathlib.Omega.{arith}
 use native.Mathlib.Decide.{decLt}
-use native.Mathlib.Nat.{add-zero}
 use native.Mathlib.Numerals.{add-one}
-use lib.Dec.{ltb}
-use lib.ListN.{length, getD, set, take, drop, length-append, length-set, drop-of-length-le}
-use lib.Seq.{sets, length-sets, set-out, drop-cons, take-suc-set, take-all, take-set-le}
+use lib.ListN.{length, getD, set, take, drop, length-set, drop-of-length-le}
+use lib.Seq.{sets, length-sets, drop-cons, take-suc-set, take-all}
 use borrow.Author.Tests.{lt-ltb, le-ltb, ne-eqb}
-use Rattle.notation.specs.Notation.{until, digitValue, pairValue, allDigits, hexDigit, split, join, hexOfBytes, hexOfCoefficients, bytesOfHex, coefficientsOfHex, decimalFrom, decimalOf, shown}
-use Rattle.notation.specs.Laws.{Pair, pair-good, pair-bad, capped-from, until-more, until-here, until-end, sets-append, sets-out, shown-some}
+use Rattle.notation.specs.Notation.{until, digitValue, pairValue, allDigits, join, bytesOfHex, coefficientsOfHex, decimalFrom, decimalOf, shown}
+use Rattle.notation.specs.Laws.{Pair, pair-good, pair-bad, capped-from, until-more, until-here, until-end, shown-some, decimal-as}
+use Rattle.notation.specs.Text.{sets-append, sets-out, puts-as}
 use Rattle.notation.specs.declared.Decimal.the-variants.{Value, None}
 use Rattle.notation.specs.declared.Reason.the-variants.{BadDigit, TooLarge}
-use Rattle.notation.specs.declared.Gathered.{Gathered}
 use Rattle.notation.specs.Promises.{Spells, Puts, Gathers}
 
 -- the first of what is left
@@ -125,39 +123,6 @@ four-bad-at word j h good bad =
     ∙ pair-good (getD word j 0) (getD word (j + 1) 0) (drop (j + 2) word) good .digits
     ∙ pair-bad-at word (j + 2) (omega arith) bad'
 
--- text that is put in turn
-pub puts-as :
-    {at m n r : ℕ} {xs ys text after : List ℕ} → xs ≡ ys → m ≤ n → Puts at m xs text after r → Puts at n ys text after r
-puts-as {at} {text = text} e h p = record {
-  end = p .end ∙ ap (λ t. at + length t) e;
-  within = omega (arith, p .within);
-  puts = p .puts ∙ ap (sets text at) e;
-}
-
-pub puts-none : {at : ℕ} {text : List ℕ} → Puts at 0 [] text text at
-puts-none = record { end = omega arith; within = omega arith; puts = refl }
-
-pub puts-then :
-    {at i m n r : ℕ} {xs ys text now after : List ℕ} → Puts at m xs text now i → Puts i n ys now after r → Puts at (m + n) (xs ++ ys) text after r
-puts-then {at} {i} {m} {n} {r} {xs} {ys} {text} {now} {after} p q = record {
-  end = omega (arith, p .end, q .end, length-append xs ys);
-  within = omega (arith, p .within, q .within);
-  puts = q .puts ∙ ap₂ (λ t k. sets t k ys) (p .puts) (p .end) ∙ sets-append text at xs ys;
-}
-
--- the digits of a byte, and of a coefficient
-pub puts-pair :
-    (text : List ℕ) (at b : ℕ) {h l : ℕ} → h ≡ hexDigit (b / 16) → l ≡ hexDigit (b % 16) → set (set text at h) (at + 1) l ≡ sets text at (hexOfBytes (b ∷ []))
-unfolding split
-puts-pair text at b e f = rw (e, f, add-one) refl
-
-pub puts-four :
-    (text : List ℕ) (at x : ℕ) {now after : List ℕ} → now ≡ sets text at (hexOfBytes ((x / 256) ∷ [])) →
-    after ≡ sets now (at + 2) (hexOfBytes ((x % 256) ∷ [])) → after ≡ sets text at (hexOfCoefficients (x ∷ []))
-unfolding split
-puts-four text at x e f =
-    f ∙ ap (λ t. sets t (at + 2) (hexOfBytes ((x % 256) ∷ []))) e ∙ sets-append text at (hexOfBytes ((x / 256) ∷ [])) (hexOfBytes ((x % 256) ∷ []))
-
 -- decimal digits are read: those that are left, and the number that those before them gave, which is capped
 pub record Counting (cap : ℕ) (word : List ℕ) (i v : ℕ) : Type 0 where
   pub within : i ≤ length word
@@ -208,9 +173,7 @@ module _ {i v : ℕ} {word : List ℕ} (s : Counting 4294967296 word i v) (some 
     decimal-large g = simp (ne-eqb (length word) 0 (λ q. omega arith), good, le-ltb (decimalFrom 0 word) 4294967296 (omega (arith, capped)))
 
     pub decimal-value : v < 4294967296 → decimalOf word ≡ Value v
-    decimal-value g =
-        let e : decimalFrom 0 word ≡ v = omega (arith, capped) in
-        simp (ne-eqb (length word) 0 (λ q. omega arith), good, e, lt-ltb v 4294967296 g)
+    decimal-value g = decimal-as word v some good (omega (arith, capped)) g
 
 -- elements are shown as `of` has them: those that are left, from a place of the text on
 pub record Showing (of : List ℕ → List ℕ) (text : List ℕ) (at : ℕ) (items now : List ℕ) (i j : ℕ) : Type 0 where

@@ -12,8 +12,8 @@ use Rattle.notation.specs.declared.Part.{Part}
 use Rattle.notation.specs.declared.Word.{Word}
 use Rattle.notation.specs.declared.Gathered.{Gathered}
 use Rattle.notation.specs.declared.Reason.the-variants.{BadDigit}
-use Rattle.notation.specs.declared.Reading.the-variants.{Sound, Unreadable}
-use Rattle.notation.specs.Notation.{until, wordAt, allDigits, isSound, Taken, list, fault, takenWord, readNumber}
+use Rattle.notation.specs.declared.Reading.the-variants.{Sound}
+use Rattle.notation.specs.Notation.{until, wordAt, allDigits, Taken, fault, takenWord, readNumber}
 
 -- hex digits are read as `of` has them, where each is one
 pub record Spells (of : List ℕ → List ℕ) (word : List ℕ) (r : Bool) (out : List ℕ) : Type 0 where

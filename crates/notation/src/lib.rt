@@ -3,7 +3,7 @@
 ghost use mathlib.Core.Path.{_≡_};
 ghost use mathlib.Core.Bool.{cond};
 ghost use mathlib.Core.List.{_∷_, []};
-ghost use Prim.Native.Nat.{_+_, _*_, _/_, _%_, _<_, _≤_, min};
+ghost use Prim.Native.Nat.{_+_, _*_, _<_, _≤_, min};
 ghost use lib.ListN.{length, set};
 ghost use lib.Seq.{sets};
 ghost use Rattle.notation.specs.Notation.{digitValue, pairValue, hexDigit, bytesOfHex, coefficientsOfHex, hexOfBytes, hexOfCoefficients, shown, isDash, isSound, decimalOf, decimal, readNumber, word, argument, finished};

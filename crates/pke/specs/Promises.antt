@@ -1,4 +1,5 @@
--- What encryption and decryption promise, and what the functions beneath them ask: r is the answer, a primed list is an output at exit.
+-- What encryption and decryption promise, and what the functions beneath them ask.
+-- r is the answer, a primed list is an output at exit. A `Room` is what a function asks of the lengths, a `Space` the same with those of lent places.
 use Prim.Native.Nat.{ℕ, _+_, _*_, _<_, _≤_}
 use mathlib.Core.List.{List}
 use mathlib.Core.Path.{_≡_}
@@ -10,15 +11,17 @@ use Rattle.sampling.specs.Promises.{Pieces}
 use Rattle.reconciliation.specs.Promises.{Step}
 use Rattle.pke.specs.Pke.{encrypted, decrypted, encryptAnswer, decryptAnswer}
 
+-- encryption: its answer, and its output at exit
 pub record Encrypted (set : ℕ) (pk message seed ct : List ℕ) (r : ℕ) (ct' : List ℕ) : Type 0 where
   pub answer : r ≡ encryptAnswer set (length pk) (length message) (length seed) (length ct)
   pub ciphertext : ct' ≡ written r (encrypted (paramsOf set) pk message seed) ct
 
+-- decryption: its answer, and its output at exit
 pub record Decrypted (set : ℕ) (plain ct message : List ℕ) (r : ℕ) (message' : List ℕ) : Type 0 where
   pub answer : r ≡ decryptAnswer set (length plain) (length ct) (length message)
   pub opened : message' ≡ written r (decrypted (paramsOf set) plain ct) message
 
--- the parameters of a set
+-- what the functions use of a set's parameters
 pub record Valid (p : Params) : Type 0 where
   pub some : 0 < p .l
   pub few : p .l ≤ 4
@@ -43,14 +46,14 @@ pub record VectorSpace (l secret matrix exact rounded out : ℕ) : Type 0 where
   pub roundedLong : rounded ≡ 256 * l
 
 -- an inner product of a packed vector and a secret
-pub record SharedRoom (l vector secret v : ℕ) : Type 0 where
+pub record PackedInnerRoom (l vector secret v : ℕ) : Type 0 where
   pub few : l ≤ 4
   pub vectorLong : vector ≡ 320 * l
   pub secretLong : secret ≡ 256 * l
   pub vLong : v ≡ 256
 
-pub record SharedSpace (l vector secret unpacked v : ℕ) : Type 0 where
-  pub room : SharedRoom l vector secret v
+pub record PackedInnerSpace (l vector secret unpacked v : ℕ) : Type 0 where
+  pub room : PackedInnerRoom l vector secret v
   pub unpackedLong : unpacked ≡ 256 * l
 
 -- the reconciliation data of a message, and back
@@ -61,7 +64,7 @@ pub record DataRoom (p : Params) (vector secret message out : ℕ) : Type 0 wher
   pub messageLong : message ≡ 32
   pub outLong : out ≡ 32 * p .bits
 
-pub record OpenRoom (p : Params) (v numbers message : ℕ) : Type 0 where
+pub record MessageRoom (p : Params) (v numbers message : ℕ) : Type 0 where
   pub valid : Valid p
   pub vLong : v ≡ 256
   pub numbersLong : numbers ≡ 32 * p .bits

@@ -1,21 +1,20 @@
-// Encryption and decryption.
-ghost use mathlib.Core.List.{_++_, map};
+// Encryption and decryption, beneath the key encapsulation.
 ghost use mathlib.Core.Path.{_≡_};
 ghost use lib.ListN.{length};
 ghost use Rattle.algebra.specs.Ring.{nat};
 ghost use Rattle.packing.specs.Packing.{packed, unpacked};
-ghost use Rattle.ring.specs.Promises;
 ghost use Rattle.ring.specs.Products.{innerMod, matrixVector};
+ghost use Rattle.ring.specs.Promises.{MatrixRoom};
 ghost use Rattle.reconciliation.specs.Reconciliation.{masked, recovered};
 ghost use Rattle.pke.specs.Pke.{side, roundedVector, maskedPoly, dataPoly, encrypted, decrypted, encryptAnswer, decryptAnswer};
-ghost use Rattle.pke.specs.Promises.{Valid, VectorRoom, VectorSpace, SharedRoom, SharedSpace, DataRoom, OpenRoom, EncryptRoom, EncryptSpace, DecryptRoom, DecryptSpace, Encrypted, Decrypted};
+ghost use Rattle.pke.specs.Promises.{VectorRoom, VectorSpace, PackedInnerRoom, PackedInnerSpace, DataRoom, MessageRoom, EncryptRoom, EncryptSpace, DecryptRoom, DecryptSpace, Encrypted, Decrypted};
 use questions::ask;
 use sets::Params;
 use sets::set_params;
 
-// The product of the matrix, or of the transposed matrix, and a secret, modulo 8192.
+// The product of the matrix, or of the transposed one, and a secret, modulo 8192.
 fn product(transposed: bool, l: usize, matrix: &[u16], secret: &[u16], out: &mut [u16])
-    requires { ⌜ Rattle.ring.specs.Promises.MatrixRoom l (now matrix) (now secret) (length (now out)) ⌝ }
+    requires { ⌜ MatrixRoom l (now matrix) (now secret) (length (now out)) ⌝ }
     ensures { λ _. ⌜ now (out .exit) ≡ matrixVector l (side transposed l (now (matrix .entry))) (nat (now (secret .entry))) ⌝ }
 {
     if transposed {
@@ -25,7 +24,8 @@ fn product(transposed: bool, l: usize, matrix: &[u16], secret: &[u16], out: &mut
     }
 }
 
-// Writes the rounded product of the matrix that a seed gives, or of the transposed one, and a secret, in 10 bits a coefficient.
+// Writes b', or b of the transposed matrix: the rounded product of the matrix that a seed gives and a secret, in 10 bits a coefficient.
+// The caller lends the places for the matrix and for the product before and after rounding.
 fn put_vector_with(
     transposed: bool,
     l: usize,
@@ -45,7 +45,7 @@ fn put_vector_with(
     packing::pack_into(10, rounded, out);
 }
 
-// The same, with arrays for the matrix and the products.
+// The same, with places of its own.
 pub fn put_vector(transposed: bool, l: usize, seed: &[u8], secret: &[u16], out: &mut [u8])
     requires { ⌜ VectorRoom l (length (now secret)) (length (now out)) ⌝ }
     ensures { λ _. ⌜ now (out .exit) ≡ packed 10 (roundedVector transposed l (now (seed .entry)) (nat (now (secret .entry)))) ⌝ }
@@ -67,32 +67,33 @@ pub fn put_vector(transposed: bool, l: usize, seed: &[u8], secret: &[u16], out: 
     );
 }
 
-// The inner product, modulo 1024, of a vector packed in 10 bits and a secret.
-fn shared_with(l: usize, packed: &[u8], secret: &[u16], vector: &mut [u16], v: &mut [u16])
-    requires { ⌜ SharedSpace l (length (now packed)) (length (now secret)) (length (now vector)) (length (now v)) ⌝ }
+// The inner product, modulo 1024, of a vector packed in 10 bits and a secret; the caller lends the place for the vector.
+fn packed_inner_with(l: usize, packed: &[u8], secret: &[u16], vector: &mut [u16], v: &mut [u16])
+    requires { ⌜ PackedInnerSpace l (length (now packed)) (length (now secret)) (length (now vector)) (length (now v)) ⌝ }
     ensures { λ _. ⌜ now (v .exit) ≡ innerMod 1024 l (unpacked 10 (now (packed .entry))) (nat (now (secret .entry))) ⌝ }
 {
     packing::unpack_into(10, packed, vector);
     ring::inner_into(1024, l, vector, secret, v);
 }
 
-fn shared(l: usize, packed: &[u8], secret: &[u16], v: &mut [u16])
-    requires { ⌜ SharedRoom l (length (now packed)) (length (now secret)) (length (now v)) ⌝ }
+// The same, with a place of its own.
+fn packed_inner(l: usize, packed: &[u8], secret: &[u16], v: &mut [u16])
+    requires { ⌜ PackedInnerRoom l (length (now packed)) (length (now secret)) (length (now v)) ⌝ }
     ensures { λ _. ⌜ now (v .exit) ≡ innerMod 1024 l (unpacked 10 (now (packed .entry))) (nat (now (secret .entry))) ⌝ }
 {
     let mut vector = [0u16; 1024];
     let n = 256 * l;
-    shared_with(l, packed, secret, &mut vector[0..n], v);
+    packed_inner_with(l, packed, secret, &mut vector[0..n], v);
 }
 
-// v + 512 x bit, modulo 1024.
+// w of a coefficient: v + 512 × bit, modulo 1024.
 fn mask(v: u16, bit: u16) -> u16
     ensures { λ r. ⌜ r ≡ masked v bit ⌝ }
 {
     ((v as u32 + 512 * (bit as u32)) % 1024) as u16
 }
 
-// Puts the message bits upon v.
+// w of a polynomial, from v and the message bits.
 fn mask_all(v: &[u16], bits: &[u16], w: &mut [u16])
     requires { ⌜ (length (now v) ≡ 256) × ((length (now bits) ≡ 256) × (length (now w) ≡ 256)) ⌝ }
     ensures { λ _. ⌜ now (w .exit) ≡ maskedPoly (now (v .entry)) (now (bits .entry)) ⌝ }
@@ -107,20 +108,21 @@ fn mask_all(v: &[u16], bits: &[u16], w: &mut [u16])
 // Writes the reconciliation data of a message.
 fn put_data(p: Params, vector: &[u8], secret: &[u16], message: &[u8], out: &mut [u8])
     requires { ⌜ DataRoom p (length (now vector)) (length (now secret)) (length (now message)) (length (now out)) ⌝ }
-    ensures { λ _. ⌜ now (out .exit) ≡ packed (p .bits) (dataPoly p (unpacked 10 (now (vector .entry))) (nat (now (secret .entry))) (now (message .entry))) ⌝ }
+    ensures { λ _. ⌜ now (out .exit)
+        ≡ packed (p .bits) (dataPoly p (unpacked 10 (now (vector .entry))) (nat (now (secret .entry))) (now (message .entry))) ⌝ }
 {
     let mut v = [0u16; 256];
     let mut bits = [0u16; 256];
     let mut w = [0u16; 256];
     let mut data = [0u16; 256];
-    shared(p.l, vector, secret, &mut v);
+    packed_inner(p.l, vector, secret, &mut v);
     packing::unpack_into(1, message, &mut bits);
     mask_all(&v, &bits, &mut w);
     reconciliation::recon_into(p.g, &w, &mut data);
     packing::pack_into(p.bits, &data, out);
 }
 
-// Encrypts, with a place for the secret.
+// Encrypts at arguments of the set's lengths; the caller lends the place for the secret.
 fn encrypt_with(
     p: Params,
     public_key: &[u8],
@@ -152,7 +154,7 @@ fn encrypt_with(
     );
 }
 
-// Encrypts at arguments of the set's lengths.
+// The same, with a place of its own.
 pub fn encrypt_into(
     p: Params,
     public_key: &[u8],
@@ -169,9 +171,10 @@ pub fn encrypt_into(
 }
 
 // Recovers the message from v and the reconciliation data.
-fn open(p: Params, v: &[u16], data: &[u8], message: &mut [u8])
-    requires { ⌜ OpenRoom p (length (now v)) (length (now «data»)) (length (now message)) ⌝ }
-    ensures { λ _. ⌜ now (message .exit) ≡ packed 1 (recovered (p .g) (p .margin) (now (v .entry)) (unpacked (p .bits) (now («data» .entry)))) ⌝ }
+fn recover_message(p: Params, v: &[u16], data: &[u8], message: &mut [u8])
+    requires { ⌜ MessageRoom p (length (now v)) (length (now «data»)) (length (now message)) ⌝ }
+    ensures { λ _. ⌜ now (message .exit)
+        ≡ packed 1 (recovered (p .g) (p .margin) (now (v .entry)) (unpacked (p .bits) (now («data» .entry)))) ⌝ }
 {
     let mut numbers = [0u16; 256];
     let mut bits = [0u16; 256];
@@ -180,7 +183,7 @@ fn open(p: Params, v: &[u16], data: &[u8], message: &mut [u8])
     packing::pack_into(1, &bits, message);
 }
 
-// Decrypts, with a place for the secret.
+// Decrypts at arguments of the set's lengths; the caller lends the place for the secret.
 fn decrypt_with(
     p: Params,
     plain_secret: &[u8],
@@ -195,11 +198,11 @@ fn decrypt_with(
     let end = p.ct;
     let mut v = [0u16; 256];
     packing::unpack_into(13, plain_secret, secret);
-    shared(p.l, &ciphertext[0..e], secret, &mut v);
-    open(p, &v, &ciphertext[e..end], message);
+    packed_inner(p.l, &ciphertext[0..e], secret, &mut v);
+    recover_message(p, &v, &ciphertext[e..end], message);
 }
 
-// Decrypts at arguments of the set's lengths.
+// The same, with a place of its own.
 pub fn decrypt_into(p: Params, plain_secret: &[u8], ciphertext: &[u8], message: &mut [u8])
     requires { ⌜ DecryptRoom p (length (now «plain_secret»)) (length (now ciphertext)) (length (now message)) ⌝ }
     ensures { λ _. ⌜ now (message .exit) ≡ decrypted p (now («plain_secret» .entry)) (now (ciphertext .entry)) ⌝ }
@@ -209,6 +212,7 @@ pub fn decrypt_into(p: Params, plain_secret: &[u8], ciphertext: &[u8], message: 
     decrypt_with(p, plain_secret, ciphertext, &mut secret[0..n], message);
 }
 
+// What encryption answers, from the set number and the lengths.
 fn encrypt_answer(set: u32, public_key: usize, message: usize, seed: usize, ciphertext: usize) -> u8
     ensures { λ r. ⌜ r ≡ encryptAnswer set «public_key» message seed ciphertext ⌝ }
 {
@@ -218,6 +222,7 @@ fn encrypt_answer(set: u32, public_key: usize, message: usize, seed: usize, ciph
     ask(0 < p.l, 1, ask((message == 32) & (seed == 32), 3, q4))
 }
 
+// What decryption answers, from the set number and the lengths.
 fn decrypt_answer(set: u32, plain_secret: usize, ciphertext: usize, message: usize) -> u8
     ensures { λ r. ⌜ r ≡ decryptAnswer set «plain_secret» ciphertext message ⌝ }
 {
@@ -235,7 +240,8 @@ pub fn encrypt(
     seed: &[u8],
     ciphertext: &mut [u8],
 ) -> u8
-    ensures { λ r. ⌜ Encrypted set (now («public_key» .entry)) (now (message .entry)) (now (seed .entry)) (now (ciphertext .entry)) r (now (ciphertext .exit)) ⌝ }
+    ensures { λ r. ⌜ Encrypted set (now («public_key» .entry)) (now (message .entry)) (now (seed .entry)) (now (ciphertext .entry))
+        r (now (ciphertext .exit)) ⌝ }
 {
     let r = encrypt_answer(
         set,
@@ -253,7 +259,8 @@ pub fn encrypt(
 
 // Decryption: Q1, Q5, Q6, Q9.
 pub fn decrypt(set: u32, plain_secret: &[u8], ciphertext: &[u8], message: &mut [u8]) -> u8
-    ensures { λ r. ⌜ Decrypted set (now («plain_secret» .entry)) (now (ciphertext .entry)) (now (message .entry)) r (now (message .exit)) ⌝ }
+    ensures { λ r. ⌜ Decrypted set (now («plain_secret» .entry)) (now (ciphertext .entry)) (now (message .entry))
+        r (now (message .exit)) ⌝ }
 {
     let r = decrypt_answer(set, plain_secret.len(), ciphertext.len(), message.len());
     if r != 0 {

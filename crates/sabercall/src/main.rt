@@ -1,6 +1,5 @@
 // Reads requests from standard input, a line each, makes the call that each names, and writes its answer.
-ghost use mathlib.Core.Path.{_≡_};
-ghost use Prim.Native.Nat.{_+_, _*_, _<_, _≤_};
+ghost use Prim.Native.Nat.{_+_, _*_, _≤_};
 ghost use lib.ListN.{length};
 ghost use Rattle.notation.specs.Notation.{hexOfBytes, hexOfCoefficients};
 ghost use Rattle.notation.specs.Promises.{Puts};

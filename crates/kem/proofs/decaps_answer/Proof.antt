@@ -1,9 +1,7 @@
+-- `kem::decaps_answer` meets its contract: it asks the questions of the definition.
 use borrow.Author.Needs.{needs}
 use Rattle.kem.proofs.decaps_answer.Statement.{statement}
 use Rattle.kem.proofs.decaps_answer.Tie as tie
-
-returns : tie.Need-returns
-returns c = cc
 
 pub decaps-answer-spec : {M : Type 1} → statement M
 decaps-answer-spec =
@@ -14,4 +12,4 @@ decaps-answer-spec =
     (λ c κs. search needs)
     (λ c κs. search needs)
     (λ c κs. search needs)
-    returns)
+    (λ c. cc))

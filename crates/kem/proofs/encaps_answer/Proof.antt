@@ -1,9 +1,7 @@
+-- `kem::encaps_answer` meets its contract: it asks the questions of the definition.
 use borrow.Author.Needs.{needs}
 use Rattle.kem.proofs.encaps_answer.Statement.{statement}
 use Rattle.kem.proofs.encaps_answer.Tie as tie
-
-returns : tie.Need-returns
-returns c = cc
 
 pub encaps-answer-spec : {M : Type 1} → statement M
 encaps-answer-spec =
@@ -14,4 +12,4 @@ encaps-answer-spec =
     (λ c κs. search needs)
     (λ c κs. search needs)
     (λ c κs. search needs)
-    returns)
+    (λ c. cc))

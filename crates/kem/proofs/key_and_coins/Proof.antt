@@ -1,11 +1,7 @@
+-- `kem::key_and_coins` meets its contract: the hash is that of the two strings joined.
 use borrow.Author.Needs.{needs}
-use mathlib.Core.Path.{_∙_, ap}
-use Rattle.sha3.specs.Sponge.{sha3-512}
 use Rattle.kem.proofs.key_and_coins.Statement.{statement}
 use Rattle.kem.proofs.key_and_coins.Tie as tie
-
-returns : tie.Need-returns
-returns c = c .before .sha3-512-into .ensures ∙ ap sha3-512 (c .before .before .before .before .before .join .ensures)
 
 pub key-and-coins-spec : {M : Type 1} → statement M
 key-and-coins-spec =
@@ -16,4 +12,4 @@ key-and-coins-spec =
     (λ c. search needs)
     (λ c. search needs)
     (λ c κs. search needs)
-    returns)
+    (λ c. cc))

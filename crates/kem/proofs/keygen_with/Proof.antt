@@ -1,13 +1,8 @@
+-- `kem::keygen_with` meets its contract: the steps of the definition, one after another.
 use borrow.Author.Needs.{needs}
 use Rattle.kem.specs.Laws.{keygen-steps}
 use Rattle.kem.proofs.keygen_with.Statement.{statement}
 use Rattle.kem.proofs.keygen_with.Tie as tie
-
-returns : tie.Need-returns
-returns c =
-    let a = c .before .before .before .before .before .before .before .before .before .before .before .before .before .before .before .before .before .before .before .before .before .args in
-    keygen-steps (a .p) (a .«matrix-seed» .now) (a .«secret-seed» .now) (a .z .now) (c .before .before .before .before .before .before .before .before .before .before .before .before .before .secret-into .ensures) (c .before .before .before .before .before .before .before .before .put-public .ensures)
-    (c .before .before .put-secret .ensures)
 
 pub keygen-with-spec : {M : Type 1} → statement M
 keygen-with-spec =
@@ -19,4 +14,4 @@ keygen-with-spec =
     (λ c. search needs)
     (λ c. search needs)
     (λ c. search needs)
-    returns)
+    (λ c. search keygen-steps))

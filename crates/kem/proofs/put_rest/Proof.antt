@@ -1,21 +1,9 @@
+-- `kem::put_rest` meets its contract: the public key and what follows it stand each in its part.
+use native.Mathlib.Nat.{le-add-right}
 use borrow.Author.Needs.{needs}
-use Prim.Native.Nat.{_+_}
-use lib.ListN.{length}
-use mathlib.Core.List.{_++_}
-use mathlib.Core.Path.{_∙_, ap₂}
-use native.Mathlib.Omega.{arith}
-use Rattle.questions.specs.Parts.{two-parts}
+use Rattle.kem.specs.Laws.{both, in-parts}
 use Rattle.kem.proofs.put_rest.Statement.{statement}
 use Rattle.kem.proofs.put_rest.Tie as tie
-
-returns : tie.Need-returns
-returns c =
-    let s = c .before .before .before .before .before .before .before .before .before .before .before in
-    let a = s .args in
-    let x = c .before .before .before .before .before .before .copy in
-    let y = c .before .before .put-hash in
-    two-parts (length (a .«public-key» .now)) (length (a .«public-key» .now) + 64) (a .output .now) (x .last .1 .0) (y .last .1 .1 .0) (omega arith) (omega arith) (x .kept .1 .0) (y .kept .1 .1 .0)
-    ∙ ap₂ _++_ (x .ensures) (y .ensures)
 
 pub put-rest-spec : {M : Type 1} → statement M
 put-rest-spec =
@@ -31,4 +19,4 @@ put-rest-spec =
     (λ c. search needs)
     (λ c κs. search needs)
     (λ c. search needs)
-    returns)
+    (λ c. search (needs, in-parts, both, le-add-right)))

@@ -1,4 +1,4 @@
--- `notation::after` meets its contract.
+-- `notation::after` meets its contract: by whether the digits were good.
 use borrow.Author.Needs.{needs}
 use Rattle.notation.proofs.after.Statement.{statement}
 use Rattle.notation.proofs.after.Tie as tie

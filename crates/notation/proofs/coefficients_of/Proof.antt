@@ -1,5 +1,5 @@
 -- `notation::coefficients_of` meets its contract: the coefficients that are written and what is left of the word spell the whole.
-use Prim.Native.Nat.{_+_, _*_, _-_, _≤_}
+use Prim.Native.Nat.{_*_, _-_, _≤_}
 use mathlib.Core.Path.{_≡_, refl}
 use native.Mathlib.Omega.{arith}
 use lib.ListN.{length, take, drop, length-set}

@@ -1,6 +1,5 @@
 -- `notation::pair_value` meets its contract: by what each digit is.
-use mathlib.Core.Path.{sym, _∙_, ap, ap₂}
-use Prim.Native.Nat.{_+_, _*_}
+use mathlib.Core.Path.{sym}
 use native.Mathlib.Omega.{arith}
 use borrow.Author.Needs.{needs}
 use Rattle.notation.specs.Laws.{pair-value, pair-high, pair-low}

@@ -1,12 +1,13 @@
 -- `notation::put_bytes` meets its contract: the digits of what is left of the bytes are put where the loop goes on.
 use Prim.Native.Nat.{_+_, _*_, _-_}
-use mathlib.Core.Path.{refl, sym, _∙_, ap}
+use mathlib.Core.Path.{refl, sym}
 use native.Mathlib.Omega.{arith}
 use lib.ListN.{length}
 use borrow.Author.Needs.{needs}
 use Rattle.notation.specs.Notation.{hexOfBytes, split}
 use Rattle.notation.specs.Laws.{length-hex, shown-none}
-use Rattle.notation.specs.Loops.{Showing, showing-none, showing-more, showing-puts, puts-as}
+use Rattle.notation.specs.Loops.{Showing, showing-none, showing-more, showing-puts}
+use Rattle.notation.specs.Text.{puts-as}
 use Rattle.notation.proofs.put_bytes.Statement.{statement}
 use Rattle.notation.proofs.put_bytes.Tie as tie
 

@@ -2,7 +2,7 @@
 use mathlib.Core.Path.{sym}
 use borrow.Author.Needs.{needs}
 use Rattle.notation.specs.Laws.{decimal-one, decimal-two, decimal-three}
-use Rattle.notation.specs.Loops.{puts-as, puts-then}
+use Rattle.notation.specs.Text.{puts-as, puts-then}
 use Rattle.notation.proofs.put_decimal.Statement.{statement}
 use Rattle.notation.proofs.put_decimal.Tie as tie
 

@@ -1,6 +1,6 @@
 -- `notation::put_four` meets its contract: the two bytes are the coefficient's.
 use borrow.Author.Needs.{needs}
-use Rattle.notation.specs.Loops.{puts-four}
+use Rattle.notation.specs.Text.{puts-four}
 use Rattle.notation.proofs.put_four.Statement.{statement}
 use Rattle.notation.proofs.put_four.Tie as tie
 

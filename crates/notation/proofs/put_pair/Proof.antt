@@ -2,7 +2,7 @@
 use native.Mathlib.Omega.{arith}
 use lib.ListN.{length-set}
 use borrow.Author.Needs.{needs}
-use Rattle.notation.specs.Loops.{puts-pair}
+use Rattle.notation.specs.Text.{puts-pair}
 use Rattle.notation.proofs.put_pair.Statement.{statement}
 use Rattle.notation.proofs.put_pair.Tie as tie
 

@@ -1,7 +1,6 @@
 -- `notation::put_text` meets its contract: what is left of the bytes is put where the loop goes on.
 use Prim.Native.Nat.{_+_, _-_}
 use mathlib.Core.Path.{refl}
-use native.Mathlib.Omega.{arith}
 use lib.ListN.{length}
 use borrow.Author.Needs.{needs}
 use Rattle.notation.specs.Loops.{Showing, showing-none, showing-more, showing-done}

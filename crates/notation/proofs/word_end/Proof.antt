@@ -1,5 +1,5 @@
 -- `notation::word_end` meets its contract: the bytes that are passed are the word's.
-use Prim.Native.Nat.{_-_, _≤_}
+use Prim.Native.Nat.{_-_}
 use mathlib.Core.Path.{refl, ap}
 use native.Mathlib.Omega.{arith}
 use lib.ListN.{length}

@@ -1,3 +1,4 @@
+-- `pke::decrypt_answer` meets its contract: it asks the questions of the definition, and l is at most 4, so that 416 l fits.
 use borrow.Author.Needs.{needs}
 use native.Mathlib.Omega.{arith}
 use Rattle.sampling.specs.Laws.{few-rows}
@@ -6,9 +7,6 @@ use Rattle.pke.proofs.decrypt_answer.Tie as tie
 
 mul-ask : tie.Need-mul-ask
 mul-ask c = omega (arith, few-rows _ (c .before .before .before .before .before .set-params .ensures))
-
-returns : tie.Need-returns
-returns c = cc
 
 pub decrypt-answer-spec : {M : Type 1} → statement M
 decrypt-answer-spec =
@@ -20,4 +18,4 @@ decrypt-answer-spec =
     mul-ask
     (λ c κs. search needs)
     (λ c κs. search needs)
-    returns)
+    (λ c. cc))

@@ -1,9 +1,7 @@
+-- `pke::encrypt_answer` meets its contract: it asks the questions of the definition.
 use borrow.Author.Needs.{needs}
 use Rattle.pke.proofs.encrypt_answer.Statement.{statement}
 use Rattle.pke.proofs.encrypt_answer.Tie as tie
-
-returns : tie.Need-returns
-returns c = cc
 
 pub encrypt-answer-spec : {M : Type 1} → statement M
 encrypt-answer-spec =
@@ -14,4 +12,4 @@ encrypt-answer-spec =
     (λ c κs. search needs)
     (λ c κs. search needs)
     (λ c κs. search needs)
-    returns)
+    (λ c. cc))

@@ -1,12 +1,12 @@
 -- `sabercall::public_key` meets its contract: what the lookup hands back is no longer than the secret key.
 use Prim.Native.Nat.{ℕ, zero, suc, _-_, _*_, _≤_}
 use mathlib.Core.List.{List, []}
-use mathlib.Core.Path.{_≡_, ap}
+use mathlib.Core.Path.{ap}
 use native.Mathlib.Omega.{arith}
 use lib.ListN.{length, take, drop, length-take, length-drop}
 use borrow.Author.Needs.{needs}
 use Rattle.questions.specs.Answers.{written}
-use Rattle.sets.specs.Sets.{paramsOf, lookupAnswer, publicKeyOf}
+use Rattle.sets.specs.Sets.{paramsOf, lookupAnswer}
 use Rattle.sabercall.proofs.public_key.Statement.{statement}
 use Rattle.sabercall.proofs.public_key.Tie as tie
 

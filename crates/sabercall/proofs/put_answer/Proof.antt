@@ -1,7 +1,7 @@
 -- `sabercall::put_answer` meets its contract: the parts of the line, one after another.
 use mathlib.Core.Path.{refl}
 use borrow.Author.Needs.{needs}
-use Rattle.notation.specs.Loops.{puts-as, puts-then}
+use Rattle.notation.specs.Text.{puts-as, puts-then}
 use Rattle.sabercall.proofs.put_answer.Statement.{statement}
 use Rattle.sabercall.proofs.put_answer.Tie as tie
 

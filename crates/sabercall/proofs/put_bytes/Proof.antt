@@ -1,6 +1,6 @@
 -- `sabercall::put_bytes` meets its contract: a space and the word, or nothing.
 use borrow.Author.Needs.{needs}
-use Rattle.notation.specs.Loops.{puts-none, puts-as, puts-then}
+use Rattle.notation.specs.Text.{puts-none, puts-as, puts-then}
 use Rattle.sabercall.specs.Laws.{output-some, output-none}
 use Rattle.sabercall.proofs.put_bytes.Statement.{statement}
 use Rattle.sabercall.proofs.put_bytes.Tie as tie

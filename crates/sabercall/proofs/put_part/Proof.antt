@@ -1,7 +1,7 @@
 -- `sabercall::put_part` meets its contract: the part as a word, and the line's end.
 use mathlib.Core.Path.{refl}
 use borrow.Author.Needs.{needs}
-use Rattle.notation.specs.Loops.{puts-as, puts-then}
+use Rattle.notation.specs.Text.{puts-as, puts-then}
 use Rattle.sabercall.proofs.put_part.Statement.{statement}
 use Rattle.sabercall.proofs.put_part.Tie as tie
 

@@ -1,0 +1,15 @@
+-- `kem::put_shared_secret` meets its contract: the last hash takes in that of the ciphertext.
+use borrow.Author.Needs.{needs}
+use Rattle.kem.proofs.put_shared_secret.Statement.{statement}
+use Rattle.kem.proofs.put_shared_secret.Tie as tie
+
+pub put-shared-secret-spec : {M : Type 1} → statement M
+put-shared-secret-spec =
+    tie.close
+    (tie.spec
+    (λ c. search needs)
+    (λ c κs. search needs)
+    (λ c. search needs)
+    (λ c κs. search needs)
+    (λ c. search needs)
+    (λ c. cc))
