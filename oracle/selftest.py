@@ -347,7 +347,6 @@ def lines():
         (b"shake128 00 -\n", b"0 -\n"),
     ):
         check(f"lines {requests!r}", notation.answer_lines(requests) == answers)
-    check("a call that is not known yet", notation.answer_lines(b"shake128 00 -", ("pack",)) == b"error unknown call\n")
 
 
 def main():
