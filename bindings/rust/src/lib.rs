@@ -1,0 +1,143 @@
+//! Saber, a key encapsulation, in the three parameter sets of its submission: safe calls of the proved library.
+//!
+//! Each call writes its outputs whole, or refuses and changes nothing. Outputs have exactly the length of their results, see [`Set`]. A set
+//! number is 1, 2 or 3, or 0 for the default, Saber. Random bytes (seeds and z) come from the caller.
+#![no_std]
+
+use core::fmt;
+
+/// A parameter set: its number for the calls, the count of polynomials in a vector, and its sizes in bytes.
+#[derive(Clone, Copy, Debug, PartialEq, Eq)]
+pub struct Set {
+    pub number: u32,
+    pub rank: usize,
+    pub public_key: usize,
+    pub secret_key: usize,
+    /// The start of a secret key, which is all that decryption needs.
+    pub plain_secret: usize,
+    pub ciphertext: usize,
+}
+
+pub const LIGHTSABER: Set = Set { number: 1, rank: 2, public_key: 672, secret_key: 1568, plain_secret: 832, ciphertext: 736 };
+pub const SABER: Set = Set { number: 2, rank: 3, public_key: 992, secret_key: 2304, plain_secret: 1248, ciphertext: 1088 };
+pub const FIRESABER: Set = Set { number: 3, rank: 4, public_key: 1312, secret_key: 3040, plain_secret: 1664, ciphertext: 1472 };
+
+/// Bytes of a seed, of z, of a message and of a shared secret.
+pub const SEED: usize = 32;
+
+/// Coefficients of a polynomial.
+pub const N: usize = 256;
+
+/// Why a call was refused: the first of these that applies.
+#[derive(Clone, Copy, Debug, PartialEq, Eq)]
+#[repr(u8)]
+pub enum Refusal {
+    UnknownSet = 1,
+    UnknownNumber = 2,
+    SeedLength = 3,
+    PublicKeyLength = 4,
+    SecretKeyLength = 5,
+    CiphertextLength = 6,
+    InputLength = 7,
+    CoefficientRange = 8,
+    OutputLength = 9,
+}
+
+impl fmt::Display for Refusal {
+    fn fmt(&self, f: &mut fmt::Formatter) -> fmt::Result {
+        f.write_str(match self {
+            Refusal::UnknownSet => "the set number is not 0 to 3",
+            Refusal::UnknownNumber => "the packing width is not 1, 3, 4, 6, 10 or 13, or the modulus not 1024 or 8192",
+            Refusal::SeedLength => "a seed or message is not 32 bytes",
+            Refusal::PublicKeyLength => "the public key has not its set's length",
+            Refusal::SecretKeyLength => "the secret key has not its set's length",
+            Refusal::CiphertextLength => "the ciphertext has not its set's length",
+            Refusal::InputLength => "an input list is not 256 coefficients, or a string to unpack not 32 x width bytes",
+            Refusal::CoefficientRange => "a coefficient is not below its modulus",
+            Refusal::OutputLength => "an output has not the length of its result",
+        })
+    }
+}
+
+impl core::error::Error for Refusal {}
+
+fn result(answer: u8) -> Result<(), Refusal> {
+    Err(match answer {
+        0 => return Ok(()),
+        1 => Refusal::UnknownSet,
+        2 => Refusal::UnknownNumber,
+        3 => Refusal::SeedLength,
+        4 => Refusal::PublicKeyLength,
+        5 => Refusal::SecretKeyLength,
+        6 => Refusal::CiphertextLength,
+        7 => Refusal::InputLength,
+        8 => Refusal::CoefficientRange,
+        9 => Refusal::OutputLength,
+        _ => unreachable!("no call answers {answer}"),
+    })
+}
+
+/// Declares each exported function, a slice as a pointer and a count, and the safe call of it: in brackets its number, if it has one, then
+/// the inputs and the outputs.
+macro_rules! calls {
+    ($($(#[$doc:meta])* $name:ident = $export:ident [$($number:ident)?] ($($input:ident: $from:ty),+) => ($($output:ident: $to:ty),+);)+) => {
+        extern "C" {
+            $(fn $export($($number: u32,)? $($input: *const $from, _: usize,)+ $($output: *mut $to, _: usize),+) -> u8;)+
+        }
+        $(
+            $(#[$doc])*
+            pub fn $name($($number: u32,)? $($input: &[$from],)+ $($output: &mut [$to]),+) -> Result<(), Refusal> {
+                // SAFETY: the pointers and counts are of slices, and `&mut` keeps the outputs apart from all else. The function reads
+                // and writes nothing besides.
+                result(unsafe { $export($($number,)? $($input.as_ptr(), $input.len(),)+ $($output.as_mut_ptr(), $output.len()),+) })
+            }
+        )+
+    };
+}
+
+calls! {
+    /// Makes a key pair from two seeds and z, the bytes that take part in a rejected secret.
+    keygen = saber_keygen [set] (matrix_seed: u8, secret_seed: u8, z: u8) => (public_key: u8, secret_key: u8);
+    /// Encapsulation: a ciphertext, and the shared secret of 32 bytes.
+    encaps = saber_encaps [set] (public_key: u8, seed: u8) => (ciphertext: u8, shared_secret: u8);
+    /// Decapsulation: the shared secret. A ciphertext that was not made for this key is no refusal: it gives another secret, made with z.
+    decaps = saber_decaps [set] (secret_key: u8, ciphertext: u8) => (shared_secret: u8);
+    /// Encrypts a message of 32 bytes with a secret seed of 32 bytes.
+    encrypt = saber_encrypt [set] (public_key: u8, message: u8, seed: u8) => (ciphertext: u8);
+    /// Decrypts to a message of 32 bytes with the plain secret.
+    decrypt = saber_decrypt [set] (plain_secret: u8, ciphertext: u8) => (message: u8);
+    /// The matrix of a seed: 256 x rank x rank coefficients below 8192, row by row.
+    gen_matrix = saber_gen_matrix [set] (seed: u8) => (matrix: u16);
+    /// The secret of a seed: 256 x rank coefficients, modulo 8192.
+    gen_secret = saber_gen_secret [set] (seed: u8) => (secret: u16);
+    /// The product of two polynomials below the modulus, 1024 or 8192, where X to the 256 is -1.
+    poly_mul = saber_poly_mul [modulus] (a: u16, b: u16) => (product: u16);
+    /// Rounds coefficients below 8192 to coefficients below 1024.
+    round = saber_round [] (x: u16) => (rounded: u16);
+    /// Reconciliation data of coefficients below 1024.
+    recon_data = saber_recon_data [set] (w: u16) => (data: u16);
+    /// Recovers message bits, a 0 or 1 a coefficient, from v below 1024 and reconciliation data.
+    recover = saber_recover [set] (v: u16, data: u16) => (bits: u16);
+    /// Packs 256 coefficients of `width` bits into 32 x width bytes, least significant bit first.
+    pack = saber_pack [width] (coefficients: u16) => (bytes: u8);
+    /// Unpacks 32 x width bytes into 256 coefficients of `width` bits.
+    unpack = saber_unpack [width] (bytes: u8) => (coefficients: u16);
+    /// SHAKE-128 fills an output of any length and never refuses.
+    shake128 = saber_shake128 [] (input: u8) => (output: u8);
+    /// SHA3-256, to 32 bytes.
+    sha3_256 = saber_sha3_256 [] (input: u8) => (digest: u8);
+    /// SHA3-512, to 64 bytes.
+    sha3_512 = saber_sha3_512 [] (input: u8) => (digest: u8);
+}
+
+extern "C" {
+    fn saber_public_key_offset(set: u32, secret_key_count: usize) -> usize;
+    fn saber_public_key_length(set: u32, secret_key_count: usize) -> usize;
+}
+
+/// The public key inside a secret key, no copy. It is empty where the set is unknown or the secret key has not its length.
+pub fn public_key_of(set: u32, secret_key: &[u8]) -> &[u8] {
+    // SAFETY: both functions only reckon with the two numbers.
+    let (offset, length) = unsafe { (saber_public_key_offset(set, secret_key.len()), saber_public_key_length(set, secret_key.len())) };
+    &secret_key[offset..offset + length]
+}

@@ -1,0 +1,76 @@
+use saber::{Refusal, Set, FIRESABER, LIGHTSABER, N, SABER, SEED};
+
+struct Keys {
+    public: Vec<u8>,
+    secret: Vec<u8>,
+}
+
+fn keys(number: u32, set: Set) -> Keys {
+    let mut keys = Keys { public: vec![0; set.public_key], secret: vec![0; set.secret_key] };
+    assert_eq!(saber::keygen(number, &[1; SEED], &[2; SEED], &[3; SEED], &mut keys.public, &mut keys.secret), Ok(()));
+    keys
+}
+
+fn round_trip(number: u32, set: Set) {
+    let keys = keys(number, set);
+    let (mut ciphertext, mut sent, mut received) = (vec![0; set.ciphertext], [0; SEED], [0; SEED]);
+    assert_eq!(saber::encaps(number, &keys.public, &[4; SEED], &mut ciphertext, &mut sent), Ok(()));
+    assert_eq!(saber::decaps(number, &keys.secret, &ciphertext, &mut received), Ok(()));
+    assert_eq!(sent, received);
+
+    let (mut message, mut hashed) = ([0; SEED], [0; SEED]);
+    assert_eq!(saber::decrypt(number, &keys.secret[..set.plain_secret], &ciphertext, &mut message), Ok(()));
+    assert_eq!(saber::sha3_256(&[4; SEED], &mut hashed), Ok(()));
+    assert_eq!(message, hashed);
+
+    ciphertext[0] ^= 1;
+    assert_eq!(saber::decaps(number, &keys.secret, &ciphertext, &mut received), Ok(()));
+    assert_ne!(sent, received);
+}
+
+#[test]
+fn round_trip_of_every_set() {
+    for (number, set) in [(0, SABER), (1, LIGHTSABER), (2, SABER), (3, FIRESABER)] {
+        round_trip(number, set);
+    }
+}
+
+#[test]
+fn the_public_key_is_a_part_of_the_secret_key() {
+    for set in [LIGHTSABER, SABER, FIRESABER] {
+        let keys = keys(set.number, set);
+        let inside = saber::public_key_of(set.number, &keys.secret);
+        assert_eq!(inside, keys.public);
+        assert_eq!(inside.as_ptr(), keys.secret[set.plain_secret..].as_ptr());
+        assert!(saber::public_key_of(4, &keys.secret).is_empty());
+        assert!(saber::public_key_of(set.number, &keys.secret[1..]).is_empty());
+    }
+}
+
+#[test]
+fn refusals_leave_outputs_alone() {
+    let keys = keys(2, SABER);
+    let (mut ciphertext, mut shared) = ([0xa5; 1088], [0xa5; SEED]);
+    let mut encaps = |set, public_key: &[u8], seed: &[u8]| saber::encaps(set, public_key, seed, &mut ciphertext, &mut shared);
+    assert_eq!(encaps(4, &keys.public, &[0; 31]), Err(Refusal::UnknownSet));
+    assert_eq!(encaps(2, &keys.public[1..], &[0; 31]), Err(Refusal::SeedLength));
+    assert_eq!(encaps(2, &keys.public[1..], &[0; 32]), Err(Refusal::PublicKeyLength));
+    assert_eq!(encaps(1, &keys.public[..672], &[0; 32]), Err(Refusal::OutputLength));
+    assert_eq!(saber::decaps(2, &[], &[], &mut shared), Err(Refusal::SecretKeyLength));
+    assert_eq!(saber::decaps(2, &keys.secret, &[], &mut shared), Err(Refusal::CiphertextLength));
+    assert_eq!((ciphertext, shared), ([0xa5; 1088], [0xa5; SEED]));
+
+    let mut list = [0xa5a5; N];
+    assert_eq!(saber::poly_mul(1000, &[0; N], &[0; N], &mut list), Err(Refusal::UnknownNumber));
+    assert_eq!(saber::poly_mul(1024, &[0; N], &[0; 255], &mut list), Err(Refusal::InputLength));
+    assert_eq!(saber::poly_mul(1024, &[0; N], &[1024; N], &mut list), Err(Refusal::CoefficientRange));
+    assert_eq!(saber::unpack(10, &[0; 320], &mut list[1..]), Err(Refusal::OutputLength));
+    assert_eq!(list, [0xa5a5; N]);
+}
+
+#[test]
+fn empty_slices() {
+    assert_eq!(saber::shake128(&[], &mut []), Ok(()));
+    assert_eq!(saber::sha3_256(&[], &mut []), Err(Refusal::OutputLength));
+    assert_eq!(saber::round(&[], &mut []), Err(Refusal::InputLength));
+}

@@ -1,0 +1,147 @@
+// Saber, a key encapsulation, in the three parameter sets of its submission.
+//
+// A slice is a pointer and then a count of elements: bytes, or coefficients of 16 bits, which start at an even address. No pointer is null,
+// also where its count is 0, and BUFFERS OF ONE CALL MUST NOT OVERLAP.
+//
+// Each call asks its questions in the order of `enum saber_answer`. It answers 0 with every output written, or the first refusal with no
+// output changed, whatever the numbers, counts and contents. Calls keep nothing from one to the next and may run in several threads.
+// Random bytes (seeds and z) come from the caller.
+#ifndef SABER_H
+#define SABER_H
+
+#include <stddef.h>
+#include <stdint.h>
+
+#ifdef __cplusplus
+extern "C" {
+#endif
+
+enum saber_answer {
+    SABER_OK = 0,
+    SABER_UNKNOWN_SET = 1,        // the set number is not 0 .. 3
+    SABER_UNKNOWN_NUMBER = 2,     // the packing width is not 1, 3, 4, 6, 10 or 13, or the modulus not 1024 or 8192
+    SABER_SEED_LENGTH = 3,        // a seed, z or a message is not 32 bytes
+    SABER_PUBLIC_KEY_LENGTH = 4,  // the public key has not its set's length
+    SABER_SECRET_KEY_LENGTH = 5,  // the secret key, or plain secret, has not its set's length
+    SABER_CIPHERTEXT_LENGTH = 6,  // the ciphertext has not its set's length
+    SABER_INPUT_LENGTH = 7,       // an input list is not 256 coefficients, or a string to unpack not 32 x width bytes
+    SABER_COEFFICIENT_RANGE = 8,  // a coefficient is not below its modulus
+    SABER_OUTPUT_LENGTH = 9       // an output has not the length of its result
+};
+
+// Set numbers. 0 means the same as 2.
+enum { SABER_SET_DEFAULT = 0, SABER_SET_LIGHTSABER = 1, SABER_SET_SABER = 2, SABER_SET_FIRESABER = 3 };
+
+// Sizes of every set: coefficients of a polynomial, and bytes.
+enum { SABER_N = 256, SABER_SEED_BYTES = 32, SABER_MESSAGE_BYTES = 32, SABER_SHARED_SECRET_BYTES = 32 };
+
+// Sizes of each set in bytes, and its rank l, the count of polynomials in a vector. A plain secret is the start of a secret key.
+enum {
+    LIGHTSABER_RANK = 2,
+    LIGHTSABER_PUBLIC_KEY_BYTES = 672,
+    LIGHTSABER_SECRET_KEY_BYTES = 1568,
+    LIGHTSABER_PLAIN_SECRET_BYTES = 832,
+    LIGHTSABER_CIPHERTEXT_BYTES = 736
+};
+enum {
+    SABER_RANK = 3,
+    SABER_PUBLIC_KEY_BYTES = 992,
+    SABER_SECRET_KEY_BYTES = 2304,
+    SABER_PLAIN_SECRET_BYTES = 1248,
+    SABER_CIPHERTEXT_BYTES = 1088
+};
+enum {
+    FIRESABER_RANK = 4,
+    FIRESABER_PUBLIC_KEY_BYTES = 1312,
+    FIRESABER_SECRET_KEY_BYTES = 3040,
+    FIRESABER_PLAIN_SECRET_BYTES = 1664,
+    FIRESABER_CIPHERTEXT_BYTES = 1472
+};
+
+// Key encapsulation
+
+// Makes a key pair from two seeds and z, the bytes that take part in a rejected secret, 32 bytes each.
+// Refusals: 1, 3, 9.
+uint8_t saber_keygen(uint32_t set, const uint8_t *matrix_seed, size_t matrix_seed_count, const uint8_t *secret_seed,
+                     size_t secret_seed_count, const uint8_t *z, size_t z_count, uint8_t *public_key, size_t public_key_count,
+                     uint8_t *secret_key, size_t secret_key_count);
+
+// Encapsulation: from a public key and a seed of 32 bytes, a ciphertext and the shared secret of 32 bytes.
+// Refusals: 1, 3, 4, 9.
+uint8_t saber_encaps(uint32_t set, const uint8_t *public_key, size_t public_key_count, const uint8_t *seed, size_t seed_count,
+                     uint8_t *ciphertext, size_t ciphertext_count, uint8_t *shared_secret, size_t shared_secret_count);
+
+// Decapsulation: the shared secret of 32 bytes. A ciphertext that was not made for this key is no refusal: it gives another secret, made
+// with z. Refusals: 1, 5, 6, 9.
+uint8_t saber_decaps(uint32_t set, const uint8_t *secret_key, size_t secret_key_count, const uint8_t *ciphertext,
+                     size_t ciphertext_count, uint8_t *shared_secret, size_t shared_secret_count);
+
+// Where the public key starts in a secret key of so many bytes, and how many bytes it has. Both are 0 where the set is unknown or the
+// count is not the set's.
+size_t saber_public_key_offset(uint32_t set, size_t secret_key_count);
+size_t saber_public_key_length(uint32_t set, size_t secret_key_count);
+
+// The public key inside a secret key, as a part of that key and no copy; its length is stored in *public_key_count, 0 where the lookup
+// refuses.
+static inline const uint8_t *saber_public_key_of(uint32_t set, const uint8_t *secret_key, size_t secret_key_count,
+                                                 size_t *public_key_count) {
+    *public_key_count = saber_public_key_length(set, secret_key_count);
+    return secret_key + saber_public_key_offset(set, secret_key_count);
+}
+
+// The encryption beneath
+
+// Encrypts a message of 32 bytes with a secret seed of 32 bytes. Refusals: 1, 3, 4, 9.
+uint8_t saber_encrypt(uint32_t set, const uint8_t *public_key, size_t public_key_count, const uint8_t *message, size_t message_count,
+                      const uint8_t *seed, size_t seed_count, uint8_t *ciphertext, size_t ciphertext_count);
+
+// Decrypts to a message of 32 bytes with the plain secret, the first 416 x l bytes of a secret key. Refusals: 1, 5, 6, 9.
+uint8_t saber_decrypt(uint32_t set, const uint8_t *plain_secret, size_t plain_secret_count, const uint8_t *ciphertext,
+                      size_t ciphertext_count, uint8_t *message, size_t message_count);
+
+// Sampling
+
+// The matrix of a seed of 32 bytes: 256 x l x l coefficients below 8192, row by row. Refusals: 1, 3, 9.
+uint8_t saber_gen_matrix(uint32_t set, const uint8_t *seed, size_t seed_count, uint16_t *matrix, size_t matrix_count);
+
+// The secret of a seed of 32 bytes: 256 x l coefficients, modulo 8192. Refusals: 1, 3, 9.
+uint8_t saber_gen_secret(uint32_t set, const uint8_t *seed, size_t seed_count, uint16_t *secret, size_t secret_count);
+
+// Polynomials of 256 coefficients
+
+// The product of two polynomials below the modulus, 1024 or 8192, where X to the 256 is -1. Refusals: 2, 7, 8, 9.
+uint8_t saber_poly_mul(uint32_t modulus, const uint16_t *a, size_t a_count, const uint16_t *b, size_t b_count, uint16_t *product,
+                       size_t product_count);
+
+// Rounds coefficients below 8192 to coefficients below 1024. Refusals: 7, 8, 9.
+uint8_t saber_round(const uint16_t *x, size_t x_count, uint16_t *rounded, size_t rounded_count);
+
+// Reconciliation data, below 1024 / g, of coefficients w below 1024. Refusals: 1, 7, 8, 9.
+uint8_t saber_recon_data(uint32_t set, const uint16_t *w, size_t w_count, uint16_t *data, size_t data_count);
+
+// Recovers message bits, a 0 or 1 a coefficient, from v below 1024 and data below 1024 / g. Refusals: 1, 7, 8, 9.
+uint8_t saber_recover(uint32_t set, const uint16_t *v, size_t v_count, const uint16_t *data, size_t data_count, uint16_t *bits,
+                      size_t bits_count);
+
+// Packs coefficients of `width` bits into 32 x width bytes, least significant bit first. Refusals: 2, 7, 8, 9.
+uint8_t saber_pack(uint32_t width, const uint16_t *coefficients, size_t coefficients_count, uint8_t *bytes, size_t bytes_count);
+
+// Unpacks 32 x width bytes into coefficients of `width` bits. Refusals: 2, 7, 9.
+uint8_t saber_unpack(uint32_t width, const uint8_t *bytes, size_t bytes_count, uint16_t *coefficients, size_t coefficients_count);
+
+// Hashes of an input of any length
+
+// SHAKE-128 fills an output of any length, 0 included. No refusal.
+uint8_t saber_shake128(const uint8_t *input, size_t input_count, uint8_t *output, size_t output_count);
+
+// SHA3-256, to 32 bytes. Refusals: 9.
+uint8_t saber_sha3_256(const uint8_t *input, size_t input_count, uint8_t *digest, size_t digest_count);
+
+// SHA3-512, to 64 bytes. Refusals: 9.
+uint8_t saber_sha3_512(const uint8_t *input, size_t input_count, uint8_t *digest, size_t digest_count);
+
+#ifdef __cplusplus
+}
+#endif
+
+#endif

@@ -1,0 +1,205 @@
+"""The program sabercall under hostile input, against the oracle's notation.
+
+    python3 tests/hostile.py [--seed N] [--count N] [--program FILE]
+
+Lines of any bytes, damaged requests, lines about and far beyond 65,536 bytes, no newline at the end, input
+that comes in pieces, and input that is empty, closed or cannot be read. COUNT is how many inputs of each
+random kind are tried. The first difference ends the run with 1.
+"""
+
+import argparse
+import os
+import random
+import subprocess
+import sys
+from collections import Counter
+from pathlib import Path
+
+ROOT = Path(__file__).resolve().parent.parent
+sys.path.insert(0, str(ROOT / "oracle"))
+
+import notation
+import saber
+
+LIMIT = notation.LONGEST
+NEAR = b"0123456789abcdefABCDEFg- #\t\r\0\xff"
+WORDS = b"- -- 00 000 0000 1 2 3 13 0000000000000000001 4294967295 4294967296 99999999999".split()
+SECONDS = 60
+
+
+# Inputs
+
+
+def sound_requests(draw):
+    """Requests with arguments of every kind, whose answers are quick to reckon."""
+    set = saber.SETS[1]
+    return [
+        notation.write_request("sha3_256", draw.randbytes(draw.randrange(300)), bytes(32)),
+        notation.write_request("shake128", draw.randbytes(20), bytes(draw.randrange(300))),
+        notation.write_request("pack", 10, [draw.randrange(1024) for _ in range(256)], bytes(320)),
+        notation.write_request("unpack", 3, draw.randbytes(96), [0] * 256),
+        notation.write_request("round", [draw.randrange(8192) for _ in range(256)], [0] * 256),
+        notation.write_request("gen_secret", 1, draw.randbytes(32), [0] * 512),
+        notation.write_request("recover", 1, *([draw.randrange(8) for _ in range(256)] for _ in range(2)), [0] * 256),
+        notation.write_request("decrypt", 1, *map(draw.randbytes, (set.plain_secret, set.ciphertext)), bytes(32)),
+        notation.write_request("public_key_of", 1, draw.randbytes(set.secret_key)),
+    ]
+
+
+def any_bytes(draw):
+    return draw.randbytes(draw.randrange(3000))
+
+
+def any_words(draw):
+    """Lines of a call's name and words that are arguments or nearly so."""
+
+    def word():
+        return draw.choice(WORDS) if draw.random() < 0.7 else bytes(draw.choices(NEAR, k=draw.randrange(12)))
+
+    def line():
+        return b" ".join([draw.choice(list(saber.CALLS)).encode(), *(word() for _ in range(draw.randrange(8)))])
+
+    return b"\n".join(line() for _ in range(draw.randrange(1, 20))) + b"\n" * draw.randrange(3)
+
+
+def damaged(draw, line):
+    """The line with one place changed, or a part of it left out, doubled or put in."""
+    start, end = sorted(draw.randrange(len(line) + 1) for _ in range(2))
+    part = line[start:end]
+    change = draw.choice((b"", 2 * part, b" ", b"\n", draw.randbytes(1), bytes([draw.choice(NEAR)]) + part[1:]))
+    return line[:start] + change + line[end:]
+
+
+def damaged_requests(draw):
+    """Requests of which every second one is damaged; the last may lack its newline."""
+    lines = [damaged(draw, line) if draw.random() < 0.5 else line for line in sound_requests(draw)]
+    draw.shuffle(lines)
+    return b"\n".join(lines) + b"\n" * draw.randrange(2)
+
+
+def long_lines():
+    """Lines about and far beyond the longest, and a sound one after each."""
+    sound = notation.write_request("sha3_256", b"abc", bytes(32))
+    digest = b" " + 64 * b"0"
+    for length in (LIMIT - 2, LIMIT - 1, LIMIT, LIMIT + 1, LIMIT + 2, 2 * LIMIT, 2 * LIMIT + 1, 16 * LIMIT + 7):
+        hashed = b"sha3_256 " + b"a5" * (length // 2 - 37)
+        for line in (
+            hashed + digest + b"0" * (length % 2),
+            b"shake128 - ".ljust(length, b"7"),
+            b"keygen" + b" -" * (length // 2 - 3) + b" " * (length % 2),
+            b"pack ".ljust(length, b"0"),
+            *(filling * length for filling in (b" ", b"\0", b"\xff", b"-", b"0")),
+            b"#".ljust(length, b"x"),
+        ):
+            assert len(line) == length
+            yield line
+            yield line + b"\n" + sound + b"\n"
+
+
+def ends():
+    """Ends of input, and lines that are nearly nothing."""
+    sound = notation.write_request("sha3_256", b"abc", bytes(32))
+    odd = [b"", b"#", b" ", b"\r", b"\0", b"-"]
+    for line in [*odd, *(sound + end for end in odd), b"# " + sound, b" " + sound]:
+        for newlines in range(3):
+            yield line + b"\n" * newlines
+            yield b"\n" * newlines + line
+
+
+# Runs
+
+
+class Difference(Exception):
+    """A run that is not as the oracle has it; its text is how."""
+
+
+def kind_of(answer):
+    """The number of an answer, the whole of an error, or `part` for what the lookup hands back."""
+    word = answer.split(b" ")[0]
+    if word == b"error":
+        return answer.decode()
+    return word.decode() if word.isdigit() and len(word) == 1 else "part"
+
+
+class Trial:
+    def __init__(self, program):
+        self.program = str(program.resolve())
+        self.inputs, self.answers = Counter(), Counter()
+        self.lines = self.bytes = 0
+
+    def compare(self, kind, given, found, status, errors):
+        """Notes a run, or raises the first line at which it differs."""
+        expected = notation.answer_lines(given)
+        if status != 0 or errors:
+            raise Difference(f"{kind}: status {status}, {errors!r} on standard error; input {given[:200]!r}")
+        if found != expected:
+            asked = [line for line in notation.lines_of(given) if not line.startswith(b"#")]
+            rows = zip(asked + [b""], expected.split(b"\n"), found.split(b"\n"))
+            line, right, wrong = next(row for row in rows if row[1] != row[2])
+            shown = f"{line[: LIMIT + 1]!r}\nexpected: {right!r}\nfound: {wrong!r}"
+            raise Difference(f"{kind}: a line of {len(line)} bytes\n{shown}")
+        self.inputs[kind] += 1
+        self.lines += len(notation.lines_of(given))
+        self.bytes += len(given)
+        self.answers.update(map(kind_of, notation.lines_of(expected)))
+
+    def whole(self, kind, given):
+        done = subprocess.run([self.program], input=given, capture_output=True, timeout=SECONDS)
+        self.compare(kind, given, done.stdout, done.returncode, done.stderr)
+
+    def in_pieces(self, kind, given, draw):
+        """The input cut at any places, each piece written by itself. Answers have to fit a pipe."""
+        pipe = subprocess.PIPE
+        with subprocess.Popen([self.program], stdin=pipe, stdout=pipe, stderr=pipe, bufsize=0) as process:
+            rest = given
+            while rest:
+                size = draw.randrange(1, 1000)
+                process.stdin.write(rest[:size])
+                rest = rest[size:]
+            found, errors = process.communicate(timeout=SECONDS)
+        self.compare(kind, given, found, process.returncode, errors)
+
+    def unreadable(self):
+        """Input that is closed, and input that opens and cannot be read."""
+        closed = subprocess.run(["sh", "-c", 'exec "$0" <&-', self.program], capture_output=True, timeout=SECONDS)
+        self.compare("closed", b"", closed.stdout, closed.returncode, closed.stderr)
+        folder = os.open("/", os.O_RDONLY)
+        try:
+            done = subprocess.run([self.program], stdin=folder, capture_output=True, timeout=SECONDS)
+        finally:
+            os.close(folder)
+        self.compare("a folder", b"", done.stdout, done.returncode, done.stderr)
+
+
+def main():
+    parser = argparse.ArgumentParser()
+    parser.add_argument("--seed", type=int, default=random.SystemRandom().getrandbits(32))
+    parser.add_argument("--count", type=int, default=200)
+    parser.add_argument("--program", type=Path, default=ROOT / "target" / "bin" / "sabercall")
+    options = parser.parse_args()
+    print(f"hostile: seed {options.seed}, {options.count} inputs of each random kind", flush=True)
+
+    draw = random.Random(options.seed)
+    trial = Trial(options.program)
+    try:
+        trial.unreadable()
+        for given in ends():
+            trial.whole("ends", given)
+        for given in long_lines():
+            trial.whole("long lines", given)
+        for _ in range(options.count):
+            trial.whole("any bytes", any_bytes(draw))
+            trial.whole("any words", any_words(draw))
+            trial.whole("damaged requests", damaged_requests(draw))
+            trial.in_pieces("in pieces", damaged_requests(draw), draw)
+    except Difference as difference:
+        print(f"difference, {difference}")
+        return 1
+    print("inputs: " + ", ".join(f"{kind} {count}" for kind, count in trial.inputs.items()))
+    print("answers: " + ", ".join(f"{answer} {count}" for answer, count in sorted(trial.answers.items())))
+    print(f"{sum(trial.inputs.values())} inputs, {trial.lines} lines, {trial.bytes} bytes, no difference")
+    return 0
+
+
+if __name__ == "__main__":
+    sys.exit(main())

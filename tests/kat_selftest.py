@@ -1,0 +1,62 @@
+"""Tests of the known-answer runner: every reading of document 01, reversed in an entry, is found again.
+
+    python3 tests/kat_selftest.py
+"""
+
+import sys
+
+import drbg
+import kat
+import notation
+import readings
+import saber
+
+REJECTION = "the rejected secret is of k and z"
+
+
+def damaged(string):
+    return bytes([string[0] ^ 1]) + string[1:]
+
+
+def differences(entry):
+    """Each call in which an entry differs from the oracle, with what that is laid to."""
+    found = [check for check in kat.checks("", entry) if notation.answer_line(check.request) != check.expected]
+    return {check.label.strip(): kat.laid_to(check) for check in found}
+
+
+def reversed_entry(number, seed, name):
+    """An entry made with one reading reversed."""
+    with readings.reversed_in_oracle([name]):
+        entry = kat.entry_of(number, seed)
+        if name == REJECTION:
+            # An honest capsule is never rejected.
+            ct = damaged(entry.ct)
+            entry = entry._replace(ct=ct, ss=saber.unsealed(saber.SETS[number], entry.sk, ct))
+    return entry
+
+
+def main():
+    failed = drbg.self_check()
+    [seed] = drbg.known_answer_seeds(1)
+    for number in saber.SETS:
+        path = kat.ROOT / "vectors/kat" / kat.file_name(number)
+        if path.read_text() != kat.write(number):
+            failed.append(f"{path.name} is not what the oracle writes")
+        honest = kat.entry_of(number, seed)
+        if differences(honest):
+            failed.append(f"set {number}: the oracle's own entry differs")
+        if differences(honest._replace(ss=damaged(honest.ss))) != {"encaps": [], "decaps": []}:
+            failed.append(f"set {number}: a damaged shared secret is laid to a reading")
+        for name in readings.READINGS:
+            laid = differences(reversed_entry(number, seed, name))
+            if name == REJECTION:
+                # Its capsule is damaged, so it is not the one that sealing makes.
+                laid.pop("encaps")
+            if not laid or any(choices != [(name,)] for choices in laid.values()):
+                failed.append(f"set {number}: {name}: laid to {laid}")
+    print(f"{len(saber.SETS) * len(readings.READINGS)} reversed readings, {len(failed)} failed")
+    sys.exit("\n".join(failed) or None)
+
+
+if __name__ == "__main__":
+    main()
