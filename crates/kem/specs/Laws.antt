@@ -89,8 +89,8 @@ pub both : {x y a b : List ℕ} → x ≡ a → y ≡ b → x ++ y ≡ a ++ b
 both p q = ap₂ _++_ p q
 
 -- r, the part from 32 to 64
-pub coins-part : (m hash : List ℕ) {kr : List ℕ} → kr ≡ sha3-512 (m ++ hash) → take 32 (drop 32 kr) ≡ drop 32 kr
-coins-part m hash {kr} e = last-part 32 64 kr (ap length e ∙ length-sponge 72 6 (m ++ hash) 64)
+pub coins-part : (input : List ℕ) {kr : List ℕ} → kr ≡ sha3-512 input → take 32 (drop 32 kr) ≡ drop 32 kr
+coins-part input {kr} e = last-part 32 64 kr (ap length e ∙ length-sponge 72 6 input 64)
 
 -- the steps of each function
 pub copied :

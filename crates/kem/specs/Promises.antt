@@ -47,7 +47,7 @@ pub record SecretRoom (l secret pk z sk : ℕ) : Type 0 where
   pub zLong : z ≡ 32
   pub skLong : sk ≡ 416 * l + (pk + 64)
 
--- the calls at the set's lengths
+-- the calls at the set's lengths: what each asks, and what it gives where it has two outputs
 pub record KeygenRoom (p : Params) (z pk sk : ℕ) : Type 0 where
   pub valid : Valid p
   pub zLong : z ≡ 32

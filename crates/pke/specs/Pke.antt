@@ -20,7 +20,7 @@ use Rattle.reconciliation.specs.Reconciliation.{masked, reconData, recovered}
 unfoldable pub maskedPoly : List ℕ → List ℕ → List ℕ
 maskedPoly v m = from 256 (λ k. masked (getD v k 0) (getD m k 0))
 
--- the matrix, or the transposed one, by row and column
+-- the matrix, or where the flag is set the transposed one, by row and column
 abbrev pub side : Bool → ℕ → List ℕ → ℕ → ℕ → List ℕ
 side false l A i j = entry l A i j
 side true l A i j = entry l A j i

@@ -24,8 +24,8 @@ fn product(transposed: bool, l: usize, matrix: &[u16], secret: &[u16], out: &mut
     }
 }
 
-// Writes b', or b of the transposed matrix: the rounded product of the matrix that a seed gives and a secret, in 10 bits a coefficient.
-// The caller lends the places for the matrix and for the product before and after rounding.
+// Writes b', or b where the matrix is transposed: the rounded product of the matrix that a seed gives and a secret, in 10 bits a
+// coefficient. The caller lends the places for the matrix and for the product before and after rounding.
 fn put_vector_with(
     transposed: bool,
     l: usize,

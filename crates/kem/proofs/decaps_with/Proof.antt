@@ -1,6 +1,6 @@
 -- `kem::decaps_with` meets its contract: the steps of the definition, one after another, on the parts of the secret key.
 use Prim.Native.Nat.{_+_, _*_}
-use mathlib.Core.Path.{_≡_, _∙_}
+use mathlib.Core.Path.{_≡_, refl, _∙_}
 use native.Mathlib.Omega.{arith}
 use lib.ListN.{length}
 use borrow.Author.Needs.{needs}
@@ -38,19 +38,9 @@ returns c =
     let start = message .before .before .before .before .before .before .before .before .before in
     let a = start .args in
     let long : length (a .«secret-key» .now) ≡ 416 * a .p .l + a .p .pk + 32 + 32 = omega (arith, start .pre .room .skLong) in
-    search (
-      decaps-steps,
-      first-part,
-      mid-part,
-      last-part,
-      coins-part,
-      long,
-      message .decrypt-into .ensures,
-      kr .key-and-coins .ensures,
-      again .encrypt-into .ensures,
-      compared .same .ensures,
-      last .put-chosen-secret .ensures,
-    )
+    decaps-steps _ _ _ (search first-part) (search mid-part) (search mid-part) (search (last-part, long))
+    (message .decrypt-into .ensures) (kr .key-and-coins .ensures) (coins-part _ (kr .key-and-coins .ensures)) refl
+    (again .encrypt-into .ensures) (compared .same .ensures) (last .put-chosen-secret .ensures)
 
 pub decaps-with-spec : {M : Type 1} → statement M
 decaps-with-spec =

@@ -1,9 +1,9 @@
 -- `kem::same` meets its contract: after i bytes the flag is the comparison of the first i.
-use borrow.Author.Needs.{needs}
 use Prim.Native.Nat.{_≤_, _-_}
 use mathlib.Core.Path.{_≡_, refl, _∙_}
 use native.Mathlib.Omega.{arith}
 use lib.ListN.{length, take}
+use borrow.Author.Needs.{needs}
 use Rattle.kem.specs.Same.{same, same-more, same-all}
 use Rattle.kem.proofs.same.Statement.{statement}
 use Rattle.kem.proofs.same.Tie as tie

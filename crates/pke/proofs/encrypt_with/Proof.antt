@@ -20,7 +20,8 @@ returns c =
     let y = after-data .put-data in
     two-parts (320 * a .p .l) (a .p .ct) (a .ciphertext .now) (x .last .1 .1 .1 .1 .0) (y .last .1 .1 .1 .1 .0) (omega arith)
     (room .ctLong) (x .kept .1 .1 .1 .1 .0) (y .kept .1 .1 .1 .1 .0)
-    ∙ search (encrypt-steps, first-part, last-part, room .pkLong, after-secret .secret-into .ensures, x .ensures, y .ensures)
+    ∙ encrypt-steps _ _ _ _ (search first-part) (search (last-part, room .pkLong)) (after-secret .secret-into .ensures) (x .ensures)
+    (y .ensures)
 
 pub encrypt-with-spec : {M : Type 1} → statement M
 encrypt-with-spec =
