@@ -1,6 +1,7 @@
 #!/bin/sh
-# The library as its users meet it: the header, a round trip in C, also under valgrind, the differential test, sabercall under hostile
-# input, the known answers and the Rust package. Needs what `rt check` built, and builds the archive.
+# The library as its users meet it: the header, a round trip in C, also under valgrind, the differential tests against the oracle and against
+# the plain implementation, sabercall under hostile input, the known answers and the Rust package. Needs what `rt check` built, and builds
+# the archive.
 set -eu
 cd "$(dirname "$0")/.."
 if [ ! -x target/bin/sabercall ]; then
@@ -19,6 +20,8 @@ cc -std=c99 -Wall -Wextra -pedantic -Werror -Iinclude -o "$work/round_trip" test
 valgrind --quiet --leak-check=full --error-exitcode=1 "$work/round_trip" >/dev/null
 echo 'valgrind: no error'
 python3 tests/differential.py
+cc -std=c99 -O2 -Wall -Wextra -pedantic -Werror -Iinclude -Ioracle -o "$work/agree" tests/agree.c oracle/plain.c "$archive"
+"$work/agree" 2000
 python3 tests/hostile.py
 python3 tests/kat.py
 if command -v cargo >/dev/null; then

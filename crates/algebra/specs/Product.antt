@@ -36,10 +36,6 @@ coef-comm n a b k h =
         rw (p, q) (*ℤ-comm (at a (n - suc i)) (at b (suc k + i)))
 
 module _ (n : ℕ) where
-  pub at-mul : (a b : List ℤ) (k : ℕ) → k < n → at (mul n a b) k ≡ coef n a b k
-  unfolding mul
-  at-mul a b = from-at n (coef n a b) (pos 0)
-
   pub length-mul : (a b : List ℤ) → length (mul n a b) ≡ n
   unfolding mul
   length-mul a b = length-from n (coef n a b)
@@ -56,10 +52,6 @@ module _ (n : ℕ) where
     pub length-inner : (a b : ℕ → List ℤ) → length (inner n l a b) ≡ n
     unfolding inner
     length-inner a b = length-from n (λ k. sum l (λ i. coef n (a i) (b i) k))
-
-    pub inner-comm : (a b : ℕ → List ℤ) → inner n l a b ≡ inner n l b a
-    unfolding inner
-    inner-comm a b = from-cong n _ _ (λ k h. sum-cong l _ _ (λ i hi. coef-comm n (a i) (b i) k h))
 
     -- only the first l polynomials count
     pub inner-cong :

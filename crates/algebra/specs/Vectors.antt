@@ -15,9 +15,6 @@ use Rattle.algebra.specs.Ring.{poly, blocks}
 pub length-poly : {A : Type 0} (s : List A) (i : ℕ) → length (poly s i) ≤ 256
 length-poly s i = rw (length-take 256 (drop (256 * i) s)) (omega arith)
 
-pub poly-full : {A : Type 0} (s : List A) (l i : ℕ) → length s ≡ 256 * l → i < l → length (poly s i) ≡ 256
-poly-full s l i h hi = rw (length-take 256 (drop (256 * i) s), length-drop (256 * i) s) (omega arith)
-
 take-map : {A B : Type 0} (f : A → B) (n : ℕ) (s : List A) → take n (map f s) ≡ map f (take n s)
 take-map f zero s = refl
 take-map f (suc n) [] = refl

@@ -49,8 +49,10 @@ module _ (p : Params) (is : Valid p) (matrixSeed secretSeed z : List ℕ) where
   length-plain : length (plainSecret p secretSeed) ≡ 416 * p .l
   unfolding plainSecret
   length-plain =
-      let s = residues 8192 (secret (p .l) (p .mu) secretSeed) in
-      length-packed 13 (p .l) (omega arith) s s (length-map (secret (p .l) (p .mu) secretSeed) (λ z. modℤ z 8192) ∙ length-secret (p .l) (p .mu) secretSeed (is .pieces)) ∙ omega arith
+      let s = secret (p .l) (p .mu) secretSeed in
+      let r = residues 8192 s in
+      let long = length-map s (λ z. modℤ z 8192) ∙ length-secret (p .l) (p .mu) secretSeed (is .pieces) in
+      length-packed 13 (p .l) (omega arith) r r long ∙ omega arith
 
   -- the parts of the secret key that the later calls read
   plain-in : plainPart p (secretKey p matrixSeed secretSeed z) ≡ plainSecret p secretSeed
@@ -206,7 +208,7 @@ module _
     -- demand 3
     pub opened : Opened seed ss' message' secret'
     opened = record {
-      message = taken _ message decryption-answers (calls .decryption .opened) ∙ message-back;
+      message = taken _ message decryption-answers (calls .decryption .message) ∙ message-back;
       secret = taken _ secret unseals (calls .unsealing .sharedSecret) ∙ secret-back ∙ sym (taken _ ss seals (calls .sealing .sharedSecret));
     }
 

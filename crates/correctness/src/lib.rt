@@ -41,7 +41,11 @@ pub fn round_trip(
     message: &mut [u8],
     opened_secret: &mut [u8],
 ) -> u8
-    ensures { λ r. ⌜ RoundTrip set (now («matrix_seed» .entry)) (now («secret_seed» .entry)) (now (z .entry)) (now (seed .entry)) (now («public_key» .entry)) (now («secret_key» .entry)) (now (ciphertext .entry)) (now («sealed_secret» .entry)) (now (message .entry)) (now («opened_secret» .entry)) r (now («public_key» .exit)) (now («secret_key» .exit)) (now (ciphertext .exit)) (now («sealed_secret» .exit)) (now (message .exit)) (now («opened_secret» .exit)) ⌝ }
+    ensures { λ r. ⌜ RoundTrip set (now («matrix_seed» .entry)) (now («secret_seed» .entry)) (now (z .entry)) (now (seed .entry))
+        (now («public_key» .entry)) (now («secret_key» .entry)) (now (ciphertext .entry)) (now («sealed_secret» .entry))
+        (now (message .entry)) (now («opened_secret» .entry)) r
+        (now («public_key» .exit)) (now («secret_key» .exit)) (now (ciphertext .exit)) (now («sealed_secret» .exit))
+        (now (message .exit)) (now («opened_secret» .exit)) ⌝ }
 {
     let r1 = kem::keygen(set, matrix_seed, secret_seed, z, public_key, secret_key);
     let r2 = kem::encaps(set, public_key, seed, ciphertext, sealed_secret);

@@ -6,7 +6,7 @@ ghost use mathlib.Core.List.{_∷_, []};
 ghost use Prim.Native.Nat.{_+_, _*_, _<_, _≤_, min};
 ghost use lib.ListN.{length, set};
 ghost use lib.Seq.{sets};
-ghost use Rattle.notation.specs.Notation.{digitValue, pairValue, hexDigit, bytesOfHex, coefficientsOfHex, hexOfBytes, hexOfCoefficients, shown, isDash, isSound, decimalOf, decimal, readNumber, word, argument, finished};
+ghost use Rattle.notation.specs.Notation.{digitValue, pairValue, hexDigit, bytesOfHex, coefficientsOfHex, hexOfBytes, hexOfCoefficients, shown, isDash, isSound, decimalOf, decimal, word, argument, finished};
 ghost use Rattle.notation.specs.Promises.{noDigits, Spells, WordEnd, Digits, Reads, ReadsNumber, Puts, Gathers};
 ghost use Rattle.notation.specs.declared.Reason.the-variants.{BadDigit};
 ghost use Rattle.notation.specs.declared.Reading.the-variants.{Sound, Unreadable};

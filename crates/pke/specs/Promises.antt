@@ -17,9 +17,9 @@ pub record Encrypted (set : ℕ) (pk message seed ct : List ℕ) (r : ℕ) (ct' 
   pub ciphertext : ct' ≡ written r (encrypted (paramsOf set) pk message seed) ct
 
 -- decryption: its answer, and its output at exit
-pub record Decrypted (set : ℕ) (plain ct message : List ℕ) (r : ℕ) (message' : List ℕ) : Type 0 where
-  pub answer : r ≡ decryptAnswer set (length plain) (length ct) (length message)
-  pub opened : message' ≡ written r (decrypted (paramsOf set) plain ct) message
+pub record Decrypted (set : ℕ) (plain ct out : List ℕ) (r : ℕ) (out' : List ℕ) : Type 0 where
+  pub answer : r ≡ decryptAnswer set (length plain) (length ct) (length out)
+  pub message : out' ≡ written r (decrypted (paramsOf set) plain ct) out
 
 -- what the functions use of a set's parameters
 pub record Valid (p : Params) : Type 0 where

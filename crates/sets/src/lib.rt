@@ -1,6 +1,5 @@
 // The parameter sets by number, and the public key inside a secret key.
 ghost use mathlib.Core.Path.{_≡_};
-ghost use lib.ListN.{length};
 ghost use Rattle.sets.specs.Sets.{paramsOf, lookupAnswer, publicKeyOf};
 use questions::ask;
 

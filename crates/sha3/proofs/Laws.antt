@@ -68,8 +68,14 @@ unfolding padding
 pad-more s d k z =
     let p : List ℕ = s ++ (d ∷ replicate k 0) in
     let e : length p ≡ length s + suc k = simp (length-append, length-replicate) in
-    rw
-    (set-append-seam, ← replicate-append-replicate {A = ℕ} k (suc z) 0, ← append-assoc s (d ∷ replicate k 0), set-at p 0 (replicate z 0) 128 (length s + suc k) e, append-assoc s, append-snoc)
+    rw (
+      set-append-seam,
+      ← replicate-append-replicate {A = ℕ} k (suc z) 0,
+      ← append-assoc s (d ∷ replicate k 0),
+      set-at p 0 (replicate z 0) 128 (length s + suc k) e,
+      append-assoc s,
+      append-snoc,
+    )
 
 length-padding : (q d : ℕ) → length (padding q d) ≡ q
 unfolding padding

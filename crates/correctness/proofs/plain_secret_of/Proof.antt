@@ -16,13 +16,16 @@ mul-n c = omega (arith, few-rows _ (c .before .set-params .ensures))
 
 returns : tie.Need-returns
 returns c =
-    let sk = c .before .before .before .before .before .args .«secret-key» .now in
-    first-part (416 * c .before .before .before .set-params .result .l) sk ∙ ap (λ (p : Params). take (416 * p .l) sk) (c .before .before .before .set-params .ensures)
+    let found = c .before .before .before in
+    let sk = found .before .before .args .«secret-key» .now in
+    first-part (416 * found .set-params .result .l) sk ∙ ap (λ (p : Params). take (416 * p .l) sk) (found .set-params .ensures)
 
 returns-2 : tie.Need-returns-2
 returns-2 c =
-    let sk = c .before .before .before .before .args .«secret-key» .now in
-    sym (take-all (416 * c .before .before .set-params .result .l) sk (omega (arith, c .if1 .left))) ∙ ap (λ (p : Params). take (416 * p .l) sk) (c .before .before .set-params .ensures)
+    let found = c .before .before in
+    let sk = found .before .before .args .«secret-key» .now in
+    sym (take-all (416 * found .set-params .result .l) sk (omega (arith, c .if1 .left)))
+    ∙ ap (λ (p : Params). take (416 * p .l) sk) (found .set-params .ensures)
 
 pub plain-secret-of-spec : {M : Type 1} → statement M
 plain-secret-of-spec =

@@ -8,18 +8,23 @@ use Rattle.correctness.proofs.round_trip.Tie as tie
 
 returns : tie.Need-returns
 returns c =
-    let a = c .before .before .before .before .before .before .before .before .before .before .before .before .before .before .before .before .before .before .before .before .before .before .before .before .before .before .before .before .before .before .before .before .before .before .before .before .before .before .before .before .before .args in
-    let r1 = c .before .before .before .before .before .before .before .before .before .before .before .before .before .before .before .before .before .before .before .before .before .before .before .before .before .before .before .before .keygen in
-    let r2 = c .before .before .before .before .before .before .before .before .before .before .before .before .before .before .before .before .before .before .before .before .encaps in
+    let unsealed = c .before .before .before .before .before in
+    let decrypted = unsealed .before .before .before .before .before .before in
+    let plain = decrypted .before .before .before in
+    let sealed = plain .before .before .before .before .before .before in
+    let made = sealed .before .before .before .before .before .before .before .before in
+    let a = made .before .before .before .before .before .before .before .before .before .before .before .before .before .args in
     trip (a .set) (a .«matrix-seed» .now) (a .«secret-seed» .now) (a .z .now) (a .seed .now) (a .«public-key» .now) (a .«secret-key» .now)
     (a .ciphertext .now) (a .«sealed-secret» .now) (a .message .now) (a .«opened-secret» .now)
     (record {
-      making = r1 .ensures;
-      sealing = r2 .ensures;
-      decryption = decrypted-as (c .before .before .before .before .before .before .before .before .before .before .before .before .before .before .plain-secret-of .ensures) (c .before .before .before .before .before .before .before .before .before .before .before .decrypt .ensures);
-      unsealing = c .before .before .before .before .before .decaps .ensures;
+      making = made .keygen .ensures;
+      sealing = sealed .encaps .ensures;
+      decryption = decrypted-as (plain .plain-secret-of .ensures) (decrypted .decrypt .ensures);
+      unsealing = unsealed .decaps .ensures;
     })
-    (c .earliest3 .ensures ∙ ap (earliest (r1 .result)) (c .before .earliest2 .ensures ∙ ap (earliest (r2 .result)) (c .before .before .earliest .ensures)))
+    (c .earliest3 .ensures
+    ∙ ap (earliest (made .keygen .result))
+    (c .before .earliest2 .ensures ∙ ap (earliest (sealed .encaps .result)) (c .before .before .earliest .ensures)))
 
 pub round-trip-spec : {M : Type 1} → statement M
 round-trip-spec =

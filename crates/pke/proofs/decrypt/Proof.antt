@@ -14,4 +14,4 @@ decrypt-spec =
     (λ c κs. search needs)
     (λ c κs. search decrypt-room)
     (λ c. search needs)
-    (λ c. record { answer = cc; opened = cc }))
+    (λ c. record { answer = cc; message = cc }))

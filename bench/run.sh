@@ -1,0 +1,13 @@
+#!/bin/sh
+# Builds the archive and measures it: the scheme beside others, one ring product beside plain C, the hashes beside OpenSSL's.
+set -eu
+cd "$(dirname "$0")/.."
+rt staticlib saber
+archive=target/staticlib/libsaber.a
+python3 bench/scheme/run.py "$archive"
+echo
+sh bench/product/run.sh "$archive"
+if command -v openssl >/dev/null; then
+    echo
+    sh bench/hash/run.sh "$archive"
+fi

@@ -1,0 +1,120 @@
+#!/usr/bin/env python3
+"""run.py ARCHIVE: keygen, encaps and decaps of the three sets, measured in one run.
+
+Beside the library stand Table 3 of the submission, the plain implementation (oracle/plain.c) built for release and, where Debian's
+libbcprov-java is installed, Bouncy Castle. The first table has cycles of the time stamp counter and microseconds, medians of 1,001 calls
+and for the library the least too; the library and the plain implementation take turns on the same input, and every output is compared.
+The second has the library's cycles as a part of the others', and what a run on a busy machine cannot blur: instructions as callgrind
+counts them, the parts of them that Keccak-f and the ring products take, and the bytes of stack."""
+import pathlib
+import re
+import shutil
+import subprocess
+import sys
+import tempfile
+
+HERE = pathlib.Path(__file__).resolve().parent
+ROOT = HERE.parent.parent
+JAR = pathlib.Path("/usr/share/java/bcprov.jar")
+SETS = {1: "LightSaber", 2: "Saber", 3: "FireSaber"}
+RANKS = {1: 2, 2: 3, 3: 4}
+CALLS = ("keygen", "encaps", "decaps")
+ROWS = [(number, call) for number in SETS for call in CALLS]
+
+# Document 000, section 5: cycles of a 2.6 GHz processor.
+TABLE_3 = dict(zip(ROWS, (105881, 155131, 179415, 216597, 267841, 318785, 360539, 400817, 472366)))
+TABLE_3_MEGAHERTZ = 2600
+
+
+def output(*words):
+    return subprocess.run([str(word) for word in words], check=True, capture_output=True, text=True).stdout
+
+
+def build(work, archive):
+    program = work / "calls"
+    output("cc", "-std=gnu99", "-O3", "-Wall", "-Wextra", "-Werror", "-I", ROOT / "include", "-I", ROOT / "oracle",
+           "-o", program, HERE / "calls.c", ROOT / "oracle/plain.c", archive)
+    return program
+
+
+def timed(program):
+    """Least and median cycles by implementation, set and call; and cycles a microsecond."""
+    cycles, megahertz = {"library": {}, "plain": {}}, None
+    for words in map(str.split, output(program, "time").splitlines()):
+        if words[0] == "megahertz":
+            megahertz = float(words[1])
+        else:
+            cycles[words[0]][int(words[1]), words[2]] = int(words[3]), int(words[4])
+    return cycles["library"], cycles["plain"], megahertz
+
+
+def bouncy(work, program):
+    """Median microseconds of Bouncy Castle's calls, or None where it is not installed. Its keys must be ours."""
+    if not (JAR.exists() and shutil.which("javac")):
+        return None
+    output("javac", "-cp", JAR, "-d", work, HERE / "Bouncy.java")
+    medians = {}
+    for words in map(str.split, output("java", "-cp", f"{work}:{JAR}", "Bouncy").splitlines()):
+        if words[0] == "key":
+            if output(program, "key", words[1]).split() != words[2:]:
+                sys.exit(f"the keys of set {words[1]} differ from Bouncy Castle's")
+        else:
+            medians[int(words[1]), words[2]] = int(words[4]) / 1000
+    return medians
+
+
+def counted(work, program):
+    """Instructions by row: all of them, and those by function."""
+    counts = {}
+    for number, call in ROWS:
+        profile = work / "profile"
+        output("valgrind", "--tool=callgrind", f"--callgrind-out-file={profile}", f"--toggle-collect=saber_{call}",
+               program, "one", number, CALLS.index(call))
+        lines = output("callgrind_annotate", "--threshold=100", "--show-percs=no", profile).splitlines()
+        found = [re.match(r"\s*([\d,]+)\s+(?:PROGRAM (TOTALS)|[^:\s]*:(\S+) \[)", line) for line in lines]
+        counts[number, call] = {m[2] or m[3]: int(m[1].replace(",", "")) for m in found if m}
+    return counts
+
+
+def shares(counts, number, call):
+    """The parts of Keccak-f and of the products. In keygen the matrix's products stand in a function of their own, which gives the price of
+    one; encaps has l more of them than keygen, and decaps 2 l more."""
+    rank = RANKS[number]
+    one = counts[number, "keygen"]["ring::matrix_into"] / rank**2
+    products = rank**2 + rank * CALLS.index(call)
+    row = counts[number, call]
+    return row["keccak::permute"] / row["TOTALS"], one * products / row["TOTALS"]
+
+
+def main():
+    if len(sys.argv) != 2:
+        sys.exit(__doc__)
+    with tempfile.TemporaryDirectory() as folder:
+        work = pathlib.Path(folder)
+        program = build(work, sys.argv[1])
+        library, plain, megahertz = timed(program)
+        java = bouncy(work, program)
+        counts = counted(work, program)
+        stack = {(int(words[1]), words[2]): int(words[3]) for words in map(str.split, output(program, "stack").splitlines())}
+
+    print(f"cycles (of {megahertz:.0f} MHz) and microseconds")
+    print(f"{'':18}{'library, least':>18}{'median':>18}{'Table 3':>18}{'plain C':>18}{'Bouncy Castle':>18}")
+    for row in ROWS:
+        times = [(cycles, cycles / megahertz) for cycles in library[row]]
+        times += [(TABLE_3[row], TABLE_3[row] / TABLE_3_MEGAHERTZ), (plain[row][1], plain[row][1] / megahertz)]
+        times += [(java[row] * megahertz, java[row])] if java else []
+        cells = "".join(f"{cycles:>11,.0f}{micro:>7.1f}" for cycles, micro in times)
+        print(f"{SETS[row[0]]:11}{row[1]:7}{cells}{'' if java else f'{chr(45):>18}'}")
+    print()
+    print("the library: its median cycles as a part of the others', and repeatable figures")
+    print(f"{'':18}{'Table 3':>9}{'(least)':>9}{'plain C':>9}{'Bouncy':>9}{'instructions':>15}{'Keccak-f':>10}{'products':>10}{'stack':>9}")
+    for row in ROWS:
+        least, median = library[row]
+        keccak, product = shares(counts, *row)
+        castle = f"{median / (java[row] * megahertz):>9.2f}" if java else f"{'-':>9}"
+        print(f"{SETS[row[0]]:11}{row[1]:7}{median / TABLE_3[row]:>9.2f}{least / TABLE_3[row]:>9.2f}{median / plain[row][1]:>9.2f}{castle}"
+              f"{counts[row]['TOTALS']:>15,}{keccak:>10.0%}{product:>10.0%}{stack[row]:>9,}")
+
+
+if __name__ == "__main__":
+    main()

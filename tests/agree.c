@@ -1,0 +1,106 @@
+// agree ROUNDS: random keys, ciphertexts and secrets of every set through the C interface, against the plain implementation (oracle/plain.c).
+// A round makes keys, seals, and unseals the ciphertext, one with a bit turned, one of random bytes, and the ciphertext with a secret key
+// with a bit turned. It stops at the first difference with a line that sabercall can repeat.
+#include <plain.h>
+#include <saber.h>
+#include <stdio.h>
+#include <stdlib.h>
+#include <string.h>
+
+static const struct {
+    size_t public_key, secret_key, ciphertext;
+} sizes[] = {
+    {0, 0, 0},
+    {LIGHTSABER_PUBLIC_KEY_BYTES, LIGHTSABER_SECRET_KEY_BYTES, LIGHTSABER_CIPHERTEXT_BYTES},
+    {SABER_PUBLIC_KEY_BYTES, SABER_SECRET_KEY_BYTES, SABER_CIPHERTEXT_BYTES},
+    {FIRESABER_PUBLIC_KEY_BYTES, FIRESABER_SECRET_KEY_BYTES, FIRESABER_CIPHERTEXT_BYTES},
+};
+
+static uint64_t state = 1;
+
+static uint8_t random_byte(void) {
+    state = state * 6364136223846793005u + 1442695040888963407u;
+    return (uint8_t)(state >> 56);
+}
+
+static void random_bytes(uint8_t *bytes, size_t count) {
+    for (size_t i = 0; i < count; i++)
+        bytes[i] = random_byte();
+}
+
+static void turn_bit(uint8_t *bytes, size_t count) {
+    size_t place = ((size_t)random_byte() << 8 | random_byte()) % count;
+    bytes[place] ^= (uint8_t)(1 << random_byte() % 8);
+}
+
+static void print_hex(const uint8_t *bytes, size_t count) {
+    printf(" ");
+    for (size_t i = 0; i < count; i++)
+        printf("%02x", bytes[i]);
+}
+
+static uint8_t seeds[4][32], public_key[2][FIRESABER_PUBLIC_KEY_BYTES], secret_key[2][FIRESABER_SECRET_KEY_BYTES];
+static uint8_t ciphertext[2][FIRESABER_CIPHERTEXT_BYTES], sent[2][32], opened[2][32];
+
+struct part {
+    const uint8_t *bytes;
+    size_t count;
+};
+static const uint8_t blank[FIRESABER_SECRET_KEY_BYTES];
+
+static void differ(const char *call, int set, const struct part *parts, int count) {
+    printf("they differ at this request, its outputs lent as zeros:\n%s %d", call, set);
+    for (int i = 0; i < count; i++)
+        print_hex(parts[i].bytes, parts[i].count);
+    printf("\n");
+    exit(1);
+}
+#define DIFFER(call, set, ...) \
+    differ(call, set, (const struct part[]){__VA_ARGS__}, sizeof((const struct part[]){__VA_ARGS__}) / sizeof(struct part))
+
+// Unseals with the first secret key and the first ciphertext.
+static void unseal(int set) {
+    size_t sk = sizes[set].secret_key, ct = sizes[set].ciphertext;
+    uint8_t answer = saber_decaps(set, secret_key[0], sk, ciphertext[0], ct, opened[0], 32);
+    plain_decaps(set, secret_key[0], ciphertext[0], opened[1]);
+    if (answer != SABER_OK || memcmp(opened[0], opened[1], 32) != 0)
+        DIFFER("decaps", set, {secret_key[0], sk}, {ciphertext[0], ct}, {blank, 32});
+}
+
+static void round_of(int set) {
+    size_t pk = sizes[set].public_key, sk = sizes[set].secret_key, ct = sizes[set].ciphertext;
+    random_bytes(seeds[0], sizeof seeds);
+    uint8_t answer = saber_keygen(set, seeds[0], 32, seeds[1], 32, seeds[2], 32, public_key[0], pk, secret_key[0], sk);
+    plain_keygen(set, seeds[0], seeds[1], seeds[2], public_key[1], secret_key[1]);
+    if (answer != SABER_OK || memcmp(public_key[0], public_key[1], pk) != 0 || memcmp(secret_key[0], secret_key[1], sk) != 0)
+        DIFFER("keygen", set, {seeds[0], 32}, {seeds[1], 32}, {seeds[2], 32}, {blank, pk}, {blank, sk});
+
+    answer = saber_encaps(set, public_key[0], pk, seeds[3], 32, ciphertext[0], ct, sent[0], 32);
+    plain_encaps(set, public_key[0], seeds[3], ciphertext[1], sent[1]);
+    if (answer != SABER_OK || memcmp(ciphertext[0], ciphertext[1], ct) != 0 || memcmp(sent[0], sent[1], 32) != 0)
+        DIFFER("encaps", set, {public_key[0], pk}, {seeds[3], 32}, {blank, ct}, {blank, 32});
+
+    unseal(set);
+    if (memcmp(sent[0], opened[0], 32) != 0) // not what encaps sealed
+        DIFFER("decaps", set, {secret_key[0], sk}, {ciphertext[0], ct}, {blank, 32});
+    turn_bit(ciphertext[0], ct);
+    unseal(set);
+    random_bytes(ciphertext[0], ct);
+    unseal(set);
+    memcpy(ciphertext[0], ciphertext[1], ct);
+    turn_bit(secret_key[0], sk);
+    unseal(set);
+}
+
+int main(int count, char **words) {
+    long rounds = count == 2 ? atol(words[1]) : 0;
+    if (rounds <= 0) {
+        fprintf(stderr, "usage: agree ROUNDS\n");
+        return 2;
+    }
+    for (int set = 1; set <= 3; set++)
+        for (long i = 0; i < rounds; i++)
+            round_of(set);
+    printf("plain implementation: %ld calls agree, %ld each of keygen and encaps and %ld of decaps\n", 18 * rounds, 3 * rounds, 12 * rounds);
+    return 0;
+}
