@@ -36,10 +36,6 @@ coef-comm n a b k h =
         rw (p, q) (*ℤ-comm (at a (n - suc i)) (at b (suc k + i)))
 
 module _ (n : ℕ) where
-  pub length-mul : (a b : List ℤ) → length (mul n a b) ≡ n
-  unfolding mul
-  length-mul a b = length-from n (coef n a b)
-
   pub mul-comm : (a b : List ℤ) → mul n a b ≡ mul n b a
   unfolding mul
   mul-comm a b = from-cong n (coef n a b) (coef n b a) (coef-comm n a b)

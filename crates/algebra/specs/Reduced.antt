@@ -13,7 +13,8 @@ use Rattle.algebra.specs.Integers.{modℤ, sum}
 use Rattle.algebra.specs.Ring.{at, coef, inner, nat, residues}
 use Rattle.algebra.specs.Whole.{eqℤ, add-split, mul-addℤ, mul-leftℤ}
 use Rattle.algebra.specs.Sums.{sum-next}
-use Rattle.algebra.specs.Residues.{Same, mod-of, mod-to, mod-part, mod-bound, same-refl, same-sym, same-add, same-neg, same-scale, same-mul, same-sum, same-residue}
+use Rattle.algebra.specs.Residues.{Same, mod-of, mod-to, mod-part, mod-bound, same-refl, same-sym, same-add}
+use Rattle.algebra.specs.Residues.{same-neg, same-scale, same-mul, same-sum, same-residue}
 use Rattle.algebra.specs.Columns.{doubled, table, dot}
 use Rattle.algebra.specs.Table.{coef-doubled, coef-table}
 use Rattle.algebra.specs.Product.{at-inner}

@@ -23,7 +23,8 @@ use Rattle.pke.specs.Pke.{roundedVector, dataPoly, encrypted, decrypted}
 use Rattle.pke.specs.Promises.{Valid, Decrypted}
 use Rattle.pke.specs.Laws.{valid}
 use Rattle.kem.specs.Same.{same-refl}
-use Rattle.kem.specs.Kem.{coinsOf, sharedSecret, messageOf, publicKey, plainSecret, secretKey, sealedCiphertext, sealedSecret, plainPart, keyPart, hashPart, unsealedSecret}
+use Rattle.kem.specs.Kem.{coinsOf, sharedSecret, messageOf, publicKey, plainSecret, secretKey}
+use Rattle.kem.specs.Kem.{sealedCiphertext, sealedSecret, plainPart, keyPart, hashPart, unsealedSecret}
 use Rattle.noise.specs.Noise.{Fits}
 use Rattle.noise.specs.Theorem.{fits}
 use Rattle.correctness.specs.Claim.{seedsNoise, Quiet, Ready, Calls, Answered, Opened}

@@ -24,7 +24,8 @@ use Rattle.pke.specs.Pke.{roundedVector, encrypted, decrypted}
 use Rattle.ring.specs.Laws.{matrix-secret}
 use Rattle.pke.specs.Laws.{valid}
 use Rattle.kem.specs.Same.{same}
-use Rattle.kem.specs.Kem.{sharedSecret, rejectedSecret, publicKey, plainSecret, secretKey, sealedCiphertext, sealedSecret, plainPart, keyPart, hashPart, zPart, unsealedSecret, keygenAnswer, encapsAnswer, decapsAnswer}
+use Rattle.kem.specs.Kem.{sharedSecret, rejectedSecret, publicKey, plainSecret, secretKey, sealedCiphertext, sealedSecret}
+use Rattle.kem.specs.Kem.{plainPart, keyPart, hashPart, zPart, unsealedSecret, keygenAnswer, encapsAnswer, decapsAnswer}
 use Rattle.kem.specs.Promises.{KeygenRoom, KeysMade, EncapsRoom, EncapsDone, DecapsRoom}
 
 -- an answer of 0 gives the work the lengths that it asks

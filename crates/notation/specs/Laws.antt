@@ -1,4 +1,5 @@
--- Laws of the notation: what was shown is read back, and the cases of each definition.
+-- Laws of the notation: the cases of each definition, and that reading undoes writing. What the laws ending in `-back` say is a claim about
+-- the definitions; the functions' proofs do not need it.
 use Prim.Native.Nat.{ℕ, _+_, _-_, _*_, _/_, _%_, _≤_, _<_, min}
 use mathlib.Core.Bool.{Bool, true, false, cond, _&&_}
 use mathlib.Core.List.{List, [], _∷_, map}
@@ -14,7 +15,8 @@ use borrow.Author.Tests.{lt-ltb, le-ltb, le-leb, lt-leb, eq-eqb, ne-eqb, ltb-tru
 use Rattle.notation.specs.declared.Decimal.the-variants.{Value}
 use Rattle.questions.specs.Answers.{allBelow}
 use Rattle.questions.specs.Laws.{and-left, and-right}
-use Rattle.notation.specs.Notation.{until, wordAt, digitValue, pairValue, allDigits, hexDigit, split, join, hexOfBytes, hexOfCoefficients, bytesOfHex, coefficientsOfHex, shown, list, spelled, decimalFrom, decimalOf, decimal}
+use Rattle.notation.specs.Notation.{until, part, wordAt, digitValue, pairValue, allDigits, hexDigit, split, join, hexOfBytes, hexOfCoefficients}
+use Rattle.notation.specs.Notation.{bytesOfHex, coefficientsOfHex, shown, list, spelled, decimalFrom, decimalOf, decimal}
 
 -- numbers in two digits each
 pub length-split : (base : ℕ) (xs : List ℕ) → length (split base xs) ≡ 2 * length xs
@@ -45,8 +47,8 @@ split-below base (x ∷ xs) h e = simp (
 )
 
 -- the value of each byte
-within : (low high b : ℕ) → low ≤ b → b ≤ high → leb low b && leb b high ≡ true
-within low high b h g = simp (le-leb low b h, le-leb b high g)
+within : (low high b : ℕ) → (low ≤ b) × (b ≤ high) → leb low b && leb b high ≡ true
+within low high b h = simp (le-leb low b (h .0), le-leb b high (h .1))
 
 without : (low high b : ℕ) → (low ≤ b → high < b) → leb low b && leb b high ≡ false
 without low high b h = go (decLe low b)
@@ -56,21 +58,21 @@ without low high b h = go (decLe low b)
     go (no p) = simp (lt-leb low b (omega arith))
 
 module _ (b : ℕ) where
-  pub value-figure : 48 ≤ b → b ≤ 57 → digitValue b ≡ b - 48
+  pub value-figure : (48 ≤ b) × (b ≤ 57) → digitValue b ≡ b - 48
   unfolding digitValue
-  value-figure h g = simp (within 48 57 b h g)
+  value-figure h = simp (within 48 57 b h)
 
-  pub value-capital : 65 ≤ b → b ≤ 70 → digitValue b ≡ b - 65 + 10
+  pub value-capital : (65 ≤ b) × (b ≤ 70) → digitValue b ≡ b - 65 + 10
   unfolding digitValue
-  value-capital h g = simp (without 48 57 b (λ q. omega arith), within 65 70 b h g)
+  value-capital h = simp (without 48 57 b (omega arith), within 65 70 b h)
 
-  pub value-small : 97 ≤ b → b ≤ 102 → digitValue b ≡ b - 97 + 10
+  pub value-small : (97 ≤ b) × (b ≤ 102) → digitValue b ≡ b - 97 + 10
   unfolding digitValue
-  value-small h g = simp (without 48 57 b (λ q. omega arith), without 65 70 b (λ q. omega arith), within 97 102 b h g)
+  value-small h = simp (without 48 57 b (omega arith), without 65 70 b (omega arith), within 97 102 b h)
 
-  pub value-none : (48 ≤ b → 57 < b) → (65 ≤ b → 70 < b) → (97 ≤ b → 102 < b) → digitValue b ≡ 16
+  pub value-none : (48 ≤ b → 57 < b) × (65 ≤ b → 70 < b) × (97 ≤ b → 102 < b) → digitValue b ≡ 16
   unfolding digitValue
-  value-none f g h = simp (without 48 57 b f, without 65 70 b g, without 97 102 b h)
+  value-none h = simp (without 48 57 b (h .0), without 65 70 b (h .1), without 97 102 b (h .2))
 
 -- a hex digit has the value that it was made of
 digit-back : (x : ℕ) → x < 16 → digitValue (hexDigit x) ≡ x
@@ -78,8 +80,8 @@ unfolding hexDigit
 digit-back x h = go (decLt x 10)
   where
     go : Dec (x < 10) → digitValue (hexDigit x) ≡ x
-    go (yes p) = simp (lt-ltb x 10 p) (omega (arith, value-figure (48 + x) (omega arith) (omega arith)))
-    go (no p) = simp (le-ltb x 10 (omega arith)) (omega (arith, value-small (97 + (x - 10)) (omega arith) (omega arith)))
+    go (yes p) = simp (lt-ltb x 10 p) (omega (arith, value-figure (48 + x) (omega arith)))
+    go (no p) = simp (le-ltb x 10 (omega arith)) (omega (arith, value-small (97 + (x - 10)) (omega arith)))
 
 digits-back : (xs : List ℕ) → allBelow 16 xs ≡ true → map digitValue (map hexDigit xs) ≡ xs
 digits-back [] e = refl
@@ -94,12 +96,14 @@ digits-all (x ∷ xs) e =
 
 -- digits that are shown are read as what they spell
 shown-back :
-    (n : ℕ) (of : List ℕ → List ℕ) (ds : List ℕ) → (length ds ≡ 1 → ⊥) → length ds % n ≡ 0 → allDigits 16 ds ≡ true →
-    of [] ≡ [] → spelled n of (shown ds) ≡ list (of ds)
+    (n : ℕ) (of : List ℕ → List ℕ) (ds : List ℕ) → (length ds ≡ 1 → ⊥) → length ds % n ≡ 0 → allDigits 16 ds ≡ true → of [] ≡ [] →
+    spelled n of (shown ds) ≡ list (of ds)
 unfolding shown
 shown-back n of [] h m a e = ap list (sym e)
 shown-back n of (d ∷ []) h m a e = absurd (h refl)
-shown-back n of (d ∷ f ∷ ds) h m a e = simp (ne-eqb (length (d ∷ f ∷ ds)) 1 h, ne-eqb (length (d ∷ f ∷ ds)) 0 (λ q. omega arith), eq-eqb (length (d ∷ f ∷ ds) % n) 0 m, a)
+shown-back n of (d ∷ f ∷ ds) h m a e =
+    let k = length (d ∷ f ∷ ds) in
+    simp (ne-eqb k 1 h, ne-eqb k 0 (λ q. omega arith), eq-eqb (k % n) 0 m, a)
 
 pub shown-none : (ds : List ℕ) → length ds ≡ 0 → shown ds ≡ 45 ∷ []
 unfolding shown
@@ -168,7 +172,7 @@ take-until stop (b ∷ bs) = go (eqb b stop) (take-until stop bs)
     go false e = ap (λ t. b ∷ t) e
 
 -- the part of a line that is a word
-pub word-part : (line : List ℕ) (at end : ℕ) → end ≡ at + length (wordAt line at) → take (end - at) (drop at line) ≡ wordAt line at
+pub word-part : (line : List ℕ) (at end : ℕ) → end ≡ at + length (wordAt line at) → part line at end ≡ wordAt line at
 word-part line at end e =
     let n : end - at ≡ length (wordAt line at) = omega arith in
     ap (λ k. take k (drop at line)) n ∙ take-until 32 (drop at line)
@@ -224,11 +228,15 @@ module _ (x : ℕ) where
   decimal-three h = simp (le-ltb x 10 (omega arith), le-ltb x 100 h)
 
 -- a number that is shown in decimal is read back
-pub decimal-as : (word : List ℕ) (v : ℕ) → 0 < length word → allDigits 10 word ≡ true → decimalFrom 0 word ≡ v → v < 4294967296 → decimalOf word ≡ Value v
+pub decimal-as :
+    (word : List ℕ) (v : ℕ) → 0 < length word → allDigits 10 word ≡ true → decimalFrom 0 word ≡ v → v < 4294967296 → decimalOf word ≡ Value v
 decimal-as word v some good e h = simp (ne-eqb (length word) 0 (λ q. omega arith), good, e, lt-ltb v 4294967296 h)
 
 figure : (d : ℕ) → d < 10 → digitValue (48 + d) ≡ d
-figure d h = omega (arith, value-figure (48 + d) (omega arith) (omega arith))
+figure d h = omega (arith, value-figure (48 + d) (omega arith))
+
+is-figure : (d : ℕ) → d < 10 → ltb (digitValue (48 + d)) 10 ≡ true
+is-figure d h = rw (figure d h) (lt-ltb d 10 h)
 
 pub decimal-back : (x : ℕ) → x < 256 → decimalOf (decimal x) ≡ Value x
 unfolding allDigits decimalFrom
@@ -236,20 +244,23 @@ decimal-back x h = go (decLt x 10) (decLt x 100)
   where
     go : Dec (x < 10) → Dec (x < 100) → decimalOf (decimal x) ≡ Value x
     go (yes p) q =
-        let f = figure x p in
-        rw (decimal-one x p) (decimal-as ((48 + x) ∷ []) x (omega arith) (simp (f, lt-ltb x 10 p)) (omega arith) (omega arith))
+        rw (decimal-one x p)
+        (decimal-as ((48 + x) ∷ []) x (omega arith) (simp (is-figure x p)) (omega (arith, figure x p)) (omega arith))
     go (no p) (yes q) =
         let f = figure (x / 10) (omega arith) in
         let g = figure (x % 10) (omega arith) in
         rw (decimal-two x (omega arith) q)
-        (decimal-as ((48 + x / 10) ∷ (48 + x % 10) ∷ []) x (omega arith) (simp (f, g, lt-ltb (x / 10) 10 (omega arith), lt-ltb (x % 10) 10 (omega arith))) (omega arith) (omega arith))
+        (decimal-as ((48 + x / 10) ∷ (48 + x % 10) ∷ []) x (omega arith)
+        (simp (is-figure (x / 10) (omega arith), is-figure (x % 10) (omega arith)))
+        (omega arith)
+        (omega arith))
     go (no p) (no q) =
         let f = figure (x / 100) (omega arith) in
         let g = figure (x / 10 % 10) (omega arith) in
         let k = figure (x % 10) (omega arith) in
         rw (decimal-three x (omega arith))
         (decimal-as ((48 + x / 100) ∷ (48 + x / 10 % 10) ∷ (48 + x % 10) ∷ []) x (omega arith)
-        (simp (f, g, k, lt-ltb (x / 100) 10 (omega arith), lt-ltb (x / 10 % 10) 10 (omega arith), lt-ltb (x % 10) 10 (omega arith)))
+        (simp (is-figure (x / 100) (omega arith), is-figure (x / 10 % 10) (omega arith), is-figure (x % 10) (omega arith)))
         (omega arith)
         (omega arith))
 

@@ -34,15 +34,29 @@ pub record Spelling (of : List ℕ → List ℕ) (word rest done : List ℕ) : T
   pub digits : allDigits 16 rest ≡ allDigits 16 word
   pub items : done ++ of rest ≡ of word
 
-spelling-more :
-    (of : List ℕ → List ℕ) (word rest next done : List ℕ) (x : ℕ) → allDigits 16 rest ≡ allDigits 16 next → of rest ≡ x ∷ of next →
-    Spelling of word rest done → Spelling of word next (done ++ (x ∷ []))
-spelling-more of word rest next done x d e s = record {
-  digits = sym d ∙ s .digits;
-  items = append-assoc done (x ∷ []) (of next) ∙ ap (λ t. done ++ t) (sym e) ∙ s .items;
-}
+-- the next digits of a word, so many of them from a place on, spell x
+pub record Spelt (of : List ℕ → List ℕ) (n : ℕ) (word : List ℕ) (j x : ℕ) : Type 0 where
+  pub digits : allDigits 16 (drop j word) ≡ allDigits 16 (drop (j + n) word)
+  pub items : of (drop j word) ≡ x ∷ of (drop (j + n) word)
 
-pub spelling-bad : {of : List ℕ → List ℕ} {word rest done out : List ℕ} → allDigits 16 rest ≡ false → Spelling of word rest done → Spells of word false out
+-- one more element is written
+stored : (out : List ℕ) (i x : ℕ) → i < length out → take (i + 1) (set out i x) ≡ take i out ++ (x ∷ [])
+stored out i x h = rw add-one (take-suc-set out i x h)
+
+pub spelling-more :
+    {of : List ℕ → List ℕ} {word : List ℕ} {i x : ℕ} (n : ℕ) (out : List ℕ) → i < length out → Spelt of n word (n * i) x →
+    Spelling of word (drop (n * i) word) (take i out) → Spelling of word (drop (n * (i + 1)) word) (take (i + 1) (set out i x))
+spelling-more {of} {word} {i} {x} n out h d s =
+    let next : n * (i + 1) ≡ n * i + n = omega arith in
+    rw (stored out i x h, next) (record {
+      digits = sym (d .digits) ∙ s .digits;
+      items =
+          append-assoc (take i out) (x ∷ []) (of (drop (n * i + n) word)) ∙ ap (λ t. take i out ++ t) (sym (d .items)) ∙ s .items;
+    })
+
+pub spelling-bad :
+    {of : List ℕ → List ℕ} {word rest done out : List ℕ} → allDigits 16 rest ≡ false → Spelling of word rest done →
+    Spells of word false out
 spelling-bad e s = record { good = sym e ∙ s .digits; items = λ q. absurd (false≢true q) }
 
 pub spelling-done :
@@ -53,75 +67,43 @@ spelling-done {of} word out n i h g e s =
     let done = drop-of-length-le word {i = n} h in
     record {
       good = ap (allDigits 16) (sym done) ∙ s .digits;
-      items = λ _. sym (append-nil out) ∙ ap (λ t. out ++ t) (sym e ∙ ap of (sym done)) ∙ ap (λ t. t ++ of (drop n word)) (sym (take-all i out g)) ∙ s .items;
+      items = λ _.
+          sym (append-nil out)
+          ∙ ap₂ (λ t u. t ++ u) (sym (take-all i out g)) (sym e ∙ ap of (sym done))
+          ∙ s .items;
     }
 
--- a hex pair of a word
-pair-left : (word : List ℕ) (j : ℕ) → j + 1 < length word → drop j word ≡ getD word j 0 ∷ getD word (j + 1) 0 ∷ drop (j + 2) word
-pair-left word j h =
-    let two : j + 1 + 1 ≡ j + 2 = omega arith in
-    next-left word j (omega arith) ∙ ap (λ t. getD word j 0 ∷ t) (next-left word (j + 1) h ∙ ap (λ k. getD word (j + 1) 0 ∷ drop k word) two)
+-- a byte of two digits, and where one of them is none
+module _ (word : List ℕ) (j k : ℕ) (e : k ≡ j + 1) (h : k < length word) {x : ℕ} (f : x ≡ pairValue (getD word j 0) (getD word k 0)) where
+  pair-left : drop j word ≡ getD word j 0 ∷ getD word k 0 ∷ drop (j + 2) word
+  pair-left =
+      let two : k + 1 ≡ j + 2 = omega arith in
+      next-left word j (omega arith)
+      ∙ ap (λ t. getD word j 0 ∷ t) (ap (λ i. drop i word) (sym e) ∙ next-left word k h ∙ ap (λ i. getD word k 0 ∷ drop i word) two)
 
--- one more element is written
-stored : (out : List ℕ) (i x : ℕ) → i < length out → take (i + 1) (set out i x) ≡ take i out ++ (x ∷ [])
-stored out i x h = rw add-one (take-suc-set out i x h)
+  pub pair-spelt : x < 256 → Spelt bytesOfHex 2 word j x
+  unfolding join
+  pair-spelt small =
+      let good : Pair (getD word j 0) (getD word k 0) (drop (j + 2) word) = pair-good _ _ _ (omega arith) in
+      record {
+        digits = ap (allDigits 16) pair-left ∙ good .digits;
+        items = ap bytesOfHex pair-left ∙ ap (λ v. v ∷ bytesOfHex (drop (j + 2) word)) (sym (good .value) ∙ sym f);
+      }
 
-pub bytes-more :
-    (word bytes : List ℕ) (i x : ℕ) → 2 * i + 1 < length word → i < length bytes →
-    x ≡ pairValue (getD word (2 * i) 0) (getD word (2 * i + 1) 0) → x < 256 →
-    Spelling bytesOfHex word (drop (2 * i) word) (take i bytes) →
-    Spelling bytesOfHex word (drop (2 * (i + 1)) word) (take (i + 1) (set bytes i x))
+  pub pair-bad-at : 256 ≤ x → allDigits 16 (drop j word) ≡ false
+  pair-bad-at large = ap (allDigits 16) pair-left ∙ pair-bad _ _ _ (omega arith)
+
+-- a coefficient of two bytes
+pub four-spelt :
+    {word : List ℕ} {j x y : ℕ} → Spelt bytesOfHex 2 word j x → Spelt bytesOfHex 2 word (j + 2) y → Spelt coefficientsOfHex 4 word j (x * 256 + y)
 unfolding join
-bytes-more word bytes i x h g e small s =
-    let next : List ℕ = drop (2 * (i + 1)) word in
-    let n : 2 * i + 2 ≡ 2 * (i + 1) = omega arith in
-    let two : drop (2 * i) word ≡ getD word (2 * i) 0 ∷ getD word (2 * i + 1) 0 ∷ next =
-    pair-left word (2 * i) h ∙ ap (λ k. getD word (2 * i) 0 ∷ getD word (2 * i + 1) 0 ∷ drop k word) n in
-    let good : Pair (getD word (2 * i) 0) (getD word (2 * i + 1) 0) next = pair-good _ _ next (omega arith) in
-    rw (stored bytes i x g)
-    (spelling-more bytesOfHex word (drop (2 * i) word) next (take i bytes) x
-    (ap (allDigits 16) two ∙ good .digits)
-    (ap bytesOfHex two ∙ ap (λ v. v ∷ bytesOfHex next) (sym (good .value) ∙ sym e))
-    s)
-
-pub coefficients-more :
-    (word coefficients : List ℕ) (i x y : ℕ) → 4 * i + 3 < length word → i < length coefficients →
-    x ≡ pairValue (getD word (4 * i) 0) (getD word (4 * i + 1) 0) → x < 256 →
-    y ≡ pairValue (getD word (4 * i + 2) 0) (getD word (4 * i + 3) 0) → y < 256 →
-    Spelling coefficientsOfHex word (drop (4 * i) word) (take i coefficients) →
-    Spelling coefficientsOfHex word (drop (4 * (i + 1)) word) (take (i + 1) (set coefficients i (x * 256 + y)))
-unfolding join
-coefficients-more word coefficients i x y h g e small f little s =
-    let next : List ℕ = drop (4 * (i + 1)) word in
-    let rest : List ℕ = drop (4 * i + 2) word in
-    let m : 4 * i + 2 + 1 ≡ 4 * i + 3 = omega arith in
-    let n : 4 * i + 2 + 2 ≡ 4 * (i + 1) = omega arith in
-    let first : drop (4 * i) word ≡ getD word (4 * i) 0 ∷ getD word (4 * i + 1) 0 ∷ rest = pair-left word (4 * i) (omega arith) in
-    let second : rest ≡ getD word (4 * i + 2) 0 ∷ getD word (4 * i + 3) 0 ∷ next =
-    pair-left word (4 * i + 2) (omega arith) ∙ ap₂ (λ j k. getD word (4 * i + 2) 0 ∷ getD word j 0 ∷ drop k word) m n in
-    let high : Pair (getD word (4 * i) 0) (getD word (4 * i + 1) 0) rest = pair-good _ _ rest (omega arith) in
-    let low : Pair (getD word (4 * i + 2) 0) (getD word (4 * i + 3) 0) next = pair-good _ _ next (omega arith) in
-    rw (stored coefficients i (x * 256 + y) g)
-    (spelling-more coefficientsOfHex word (drop (4 * i) word) next (take i coefficients) (x * 256 + y)
-    (ap (allDigits 16) first ∙ high .digits ∙ ap (allDigits 16) second ∙ low .digits)
-    (ap coefficientsOfHex first
-    ∙ ap (λ t. join 256 ((digitValue (getD word (4 * i) 0) * 16 + digitValue (getD word (4 * i + 1) 0)) ∷ bytesOfHex t)) second
-    ∙ ap (λ v. v ∷ coefficientsOfHex next) (omega (arith, high .value, low .value)))
-    s)
-
--- a bad pair
-pub pair-bad-at : (word : List ℕ) (j : ℕ) → j + 1 < length word → 256 ≤ pairValue (getD word j 0) (getD word (j + 1) 0) → allDigits 16 (drop j word) ≡ false
-pair-bad-at word j h p = ap (allDigits 16) (pair-left word j h) ∙ pair-bad (getD word j 0) (getD word (j + 1) 0) (drop (j + 2) word) p
-
-pub four-bad-at :
-    (word : List ℕ) (j : ℕ) → j + 3 < length word → pairValue (getD word j 0) (getD word (j + 1) 0) < 256 →
-    256 ≤ pairValue (getD word (j + 2) 0) (getD word (j + 3) 0) → allDigits 16 (drop j word) ≡ false
-four-bad-at word j h good bad =
-    let n : j + 3 ≡ j + 2 + 1 = omega arith in
-    let bad' : 256 ≤ pairValue (getD word (j + 2) 0) (getD word (j + 2 + 1) 0) = rw n at bad in
-    ap (allDigits 16) (pair-left word j (omega arith))
-    ∙ pair-good (getD word j 0) (getD word (j + 1) 0) (drop (j + 2) word) good .digits
-    ∙ pair-bad-at word (j + 2) (omega arith) bad'
+four-spelt {word} {j} {x} {y} high low =
+    let n : j + 2 + 2 ≡ j + 4 = omega arith in
+    record {
+      digits = high .digits ∙ low .digits ∙ ap (λ k. allDigits 16 (drop k word)) n;
+      items =
+          ap (join 256) (high .items ∙ ap (λ t. x ∷ t) (low .items)) ∙ ap (λ k. (x * 256 + y) ∷ coefficientsOfHex (drop k word)) n;
+    }
 
 -- decimal digits are read: those that are left, and the number that those before them gave, which is capped
 pub record Counting (cap : ℕ) (word : List ℕ) (i v : ℕ) : Type 0 where

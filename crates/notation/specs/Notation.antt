@@ -3,7 +3,7 @@ use Prim.Native.Nat.{ℕ, _+_, _-_, _*_, _/_, _%_}
 use mathlib.Core.Bool.{Bool, true, false, cond, _&&_}
 use mathlib.Core.List.{List, [], _∷_, map}
 use lib.Dec.{eqb, leb, ltb}
-use lib.ListN.{length, getD, drop}
+use lib.ListN.{length, getD, take, drop}
 use Rattle.notation.specs.declared.Decimal.{Decimal}
 use Rattle.notation.specs.declared.Decimal.the-variants.{Value, None}
 use Rattle.notation.specs.declared.Reason.{Reason}
@@ -18,7 +18,10 @@ unfoldable pub until : ℕ → List ℕ → List ℕ
 until stop [] = []
 until stop (b ∷ bs) = cond (eqb b stop) [] (b ∷ until stop bs)
 
--- the word of a line that starts at a place
+-- the part of a line from one place to another, and the word that starts at a place
+abbrev pub part : List ℕ → ℕ → ℕ → List ℕ
+part line from end = take (end - from) (drop from line)
+
 abbrev pub wordAt : List ℕ → ℕ → List ℕ
 wordAt line at = until 32 (drop at line)
 
@@ -113,15 +116,26 @@ abbrev pub isSound : Reading → Bool
 isSound Sound = true
 isSound (Unreadable reason) = false
 
+-- the cursor at a place, where nothing was wrong before it and where something was
+abbrev pub soundAt : ℕ → Cursor
+soundAt at = record { at = at; reading = Sound }
+
+abbrev pub unreadableAt : ℕ → Reason → Cursor
+unreadableAt at reason = record { at = at; reading = Unreadable reason }
+
 -- what a reader takes from a line: a list, and the cursor behind it
 pub record Taken : Type 0 where
   pub items : List ℕ
   pub next : Cursor
 
+-- nothing taken
+abbrev pub noItems : Cursor → Taken
+noItems next = record { items = []; next = next }
+
 -- the list that a word spells, where the next word starts at a place
 abbrev pub takenWord : ℕ → Spelled → Taken
-takenWord at (list items) = record { items = items; next = record { at = at; reading = Sound } }
-takenWord at (fault reason) = record { items = []; next = record { at = at; reading = Unreadable reason } }
+takenWord at (list items) = record { items = items; next = soundAt at }
+takenWord at (fault reason) = noItems (unreadableAt at reason)
 
 -- the word at a place of a line, as a list
 abbrev pub word : ℕ → (List ℕ → List ℕ) → List ℕ → ℕ → Taken
@@ -134,12 +148,12 @@ argument digits of wanted line cursor =
     (cond (ltb (length line) (cursor .at))
     (takenWord (cursor .at) (fault WrongCount))
     (word digits of line (cursor .at)))
-    (record { items = []; next = cursor })
+    (noItems cursor)
 
 -- the number that a word is, where the next word starts at a place
 abbrev pub numberWord : ℕ → Decimal → Number
-numberWord at (Value value) = record { value = value; next = record { at = at; reading = Sound } }
-numberWord at (None reason) = record { value = 0; next = record { at = at; reading = Unreadable reason } }
+numberWord at (Value value) = record { value = value; next = soundAt at }
+numberWord at (None reason) = record { value = 0; next = unreadableAt at reason }
 
 -- the number at a place of a line, where one is wanted
 unfoldable pub readNumber : Bool → List ℕ → ℕ → Number
@@ -148,7 +162,7 @@ readNumber wanted line at =
     (cond (ltb (length line) at)
     (numberWord at (None WrongCount))
     (numberWord (at + length (wordAt line at) + 1) (decimalOf (wordAt line at))))
-    (record { value = 0; next = record { at = at; reading = Sound } })
+    (record { value = 0; next = soundAt at })
 
 -- what is to be said of a line whose arguments are read: a word that is left is one too many
 abbrev pub finished : List ℕ → Cursor → Reading

@@ -1,10 +1,10 @@
 -- What the readers and the writers promise.
-use Prim.Native.Nat.{ℕ, _+_, _-_, _*_, _≤_, min}
+use Prim.Native.Nat.{ℕ, _+_, _*_, _≤_, min}
 use mathlib.Core.Bool.{Bool, true, cond}
 use mathlib.Core.List.{List, []}
 use mathlib.Core.Path.{_≡_}
 use lib.Dec.{ltb}
-use lib.ListN.{length, take, drop}
+use lib.ListN.{length, take}
 use lib.Seq.{sets}
 use Rattle.notation.specs.declared.Cursor.{Cursor}
 use Rattle.notation.specs.declared.Number.{Number}
@@ -13,7 +13,7 @@ use Rattle.notation.specs.declared.Word.{Word}
 use Rattle.notation.specs.declared.Gathered.{Gathered}
 use Rattle.notation.specs.declared.Reason.the-variants.{BadDigit}
 use Rattle.notation.specs.declared.Reading.the-variants.{Sound}
-use Rattle.notation.specs.Notation.{until, wordAt, allDigits, Taken, fault, takenWord, readNumber}
+use Rattle.notation.specs.Notation.{until, part, wordAt, allDigits, Taken, fault, takenWord, readNumber}
 
 -- hex digits are read as `of` has them, where each is one
 pub record Spells (of : List ℕ → List ℕ) (word : List ℕ) (r : Bool) (out : List ℕ) : Type 0 where
@@ -37,8 +37,8 @@ pub record Digits (digits : ℕ) (line : List ℕ) (taken : (List ℕ → List �
   pub spells :
       (of : List ℕ → List ℕ) → of [] ≡ [] →
       taken of
-      ≡ cond (allDigits 16 (take (r .end - r .from) (drop (r .from) line)))
-      (record { items = of (take (r .end - r .from) (drop (r .from) line)); next = r .next })
+      ≡ cond (allDigits 16 (part line (r .from) (r .end)))
+      (record { items = of (part line (r .from) (r .end)); next = r .next })
       (takenWord (r .next .at) (fault BadDigit))
 
 -- an argument that was read into the front of a buffer with so many places

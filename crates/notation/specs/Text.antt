@@ -43,7 +43,8 @@ puts-then {at} {i} {m} {n} {r} {xs} {ys} {text} {now} {after} p q = record {
 
 -- the digits of a byte, and of a coefficient
 pub puts-pair :
-    (text : List ℕ) (at b : ℕ) {h l : ℕ} → h ≡ hexDigit (b / 16) → l ≡ hexDigit (b % 16) → set (set text at h) (at + 1) l ≡ sets text at (hexOfBytes (b ∷ []))
+    (text : List ℕ) (at b : ℕ) {h l : ℕ} → h ≡ hexDigit (b / 16) → l ≡ hexDigit (b % 16) →
+    set (set text at h) (at + 1) l ≡ sets text at (hexOfBytes (b ∷ []))
 unfolding split
 puts-pair text at b e f = rw (e, f, add-one) refl
 
@@ -52,4 +53,6 @@ pub puts-four :
     after ≡ sets now (at + 2) (hexOfBytes ((x % 256) ∷ [])) → after ≡ sets text at (hexOfCoefficients (x ∷ []))
 unfolding split
 puts-four text at x e f =
-    f ∙ ap (λ t. sets t (at + 2) (hexOfBytes ((x % 256) ∷ []))) e ∙ sets-append text at (hexOfBytes ((x / 256) ∷ [])) (hexOfBytes ((x % 256) ∷ []))
+    let high = hexOfBytes ((x / 256) ∷ []) in
+    let low = hexOfBytes ((x % 256) ∷ []) in
+    f ∙ ap (λ t. sets t (at + 2) low) e ∙ sets-append text at high low

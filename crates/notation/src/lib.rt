@@ -6,10 +6,10 @@ ghost use mathlib.Core.List.{_∷_, []};
 ghost use Prim.Native.Nat.{_+_, _*_, _<_, _≤_, min};
 ghost use lib.ListN.{length, set};
 ghost use lib.Seq.{sets};
-ghost use Rattle.notation.specs.Notation.{digitValue, pairValue, hexDigit, bytesOfHex, coefficientsOfHex, hexOfBytes, hexOfCoefficients, shown, isDash, isSound, decimalOf, decimal, word, argument, finished};
+ghost use Rattle.notation.specs.Notation.{digitValue, pairValue, hexDigit, bytesOfHex, coefficientsOfHex, hexOfBytes, hexOfCoefficients};
+ghost use Rattle.notation.specs.Notation.{shown, isDash, isSound, soundAt, unreadableAt, decimalOf, decimal, word, argument, finished};
 ghost use Rattle.notation.specs.Promises.{noDigits, Spells, WordEnd, Digits, Reads, ReadsNumber, Puts, Gathers};
 ghost use Rattle.notation.specs.declared.Reason.the-variants.{BadDigit};
-ghost use Rattle.notation.specs.declared.Reading.the-variants.{Sound, Unreadable};
 
 // Why a line cannot be read.
 pub enum Reason {
@@ -21,6 +21,7 @@ pub enum Reason {
     TooLarge,
 }
 
+// Whether a line can be read, and why not.
 pub enum Reading {
     Sound,
     Unreadable(Reason),
@@ -147,6 +148,7 @@ pub fn word_end(line: &[u8], at: usize) -> usize
     e
 }
 
+// Whether a word stands for an empty string or list.
 fn is_dash(word: &[u8]) -> bool
     ensures { λ r. ⌜ r ≡ isDash (now (word .entry)) ⌝ }
 {
@@ -166,6 +168,7 @@ fn is_sound(reading: Reading) -> bool
     }
 }
 
+// An empty word.
 fn no_digits(next: Cursor) -> Word
     ensures { λ r. ⌜ r ≡ noDigits next ⌝ }
 {
@@ -177,8 +180,9 @@ fn no_digits(next: Cursor) -> Word
     }
 }
 
+// The cursor at a place, where nothing was wrong before it and where something was.
 fn sound(at: usize) -> Cursor
-    ensures { λ r. ⌜ (r .at ≡ at) × (r .reading ≡ Sound) ⌝ }
+    ensures { λ r. ⌜ r ≡ soundAt at ⌝ }
 {
     Cursor {
         at,
@@ -187,7 +191,7 @@ fn sound(at: usize) -> Cursor
 }
 
 fn unreadable(at: usize, reason: Reason) -> Cursor
-    ensures { λ r. ⌜ (r .at ≡ at) × (r .reading ≡ Unreadable reason) ⌝ }
+    ensures { λ r. ⌜ r ≡ unreadableAt at reason ⌝ }
 {
     Cursor {
         at,
@@ -237,7 +241,7 @@ fn next_word(wanted: bool, line: &[u8], cursor: Cursor, digits: usize) -> Word
 
 // What follows digits, where they were good.
 fn after(good: bool, next: Cursor) -> Cursor
-    ensures { λ r. ⌜ (r .at ≡ next .at) × (r .reading ≡ cond good (next .reading) (Unreadable BadDigit)) ⌝ }
+    ensures { λ r. ⌜ r ≡ cond good next (unreadableAt (next .at) BadDigit) ⌝ }
 {
     if good {
         next
@@ -249,7 +253,8 @@ fn after(good: bool, next: Cursor) -> Cursor
 // Reads the next word as bytes, where one is wanted and nothing was wrong before.
 pub fn read_bytes(wanted: bool, line: &[u8], cursor: Cursor, bytes: &mut [u8]) -> Part
     requires { ⌜ (cursor .at ≤ length (now line) + 1) × (length (now line) ≤ 2 * length (now bytes)) ⌝ }
-    ensures { λ r. ⌜ Reads (argument 2 bytesOfHex wanted (now (line .entry)) cursor) (now (line .entry)) (length (now (bytes .entry))) r (now (bytes .exit)) ⌝ }
+    ensures { λ r. ⌜ Reads (argument 2 bytesOfHex wanted (now (line .entry)) cursor)
+        (now (line .entry)) (length (now (bytes .entry))) r (now (bytes .exit)) ⌝ }
 {
     let w = next_word(wanted, line, cursor, 2);
     let from = w.from;
@@ -262,7 +267,7 @@ pub fn read_bytes(wanted: bool, line: &[u8], cursor: Cursor, bytes: &mut [u8]) -
     }
 }
 
-// The same as coefficients.
+// The same for coefficients.
 pub fn read_coefficients(
     wanted: bool,
     line: &[u8],
@@ -270,7 +275,8 @@ pub fn read_coefficients(
     coefficients: &mut [u16],
 ) -> Part
     requires { ⌜ (cursor .at ≤ length (now line) + 1) × (length (now line) ≤ 4 * length (now coefficients)) ⌝ }
-    ensures { λ r. ⌜ Reads (argument 4 coefficientsOfHex wanted (now (line .entry)) cursor) (now (line .entry)) (length (now (coefficients .entry))) r (now (coefficients .exit)) ⌝ }
+    ensures { λ r. ⌜ Reads (argument 4 coefficientsOfHex wanted (now (line .entry)) cursor)
+        (now (line .entry)) (length (now (coefficients .entry))) r (now (coefficients .exit)) ⌝ }
 {
     let w = next_word(wanted, line, cursor, 4);
     let from = w.from;
@@ -368,7 +374,7 @@ fn hex_digit(x: u8) -> u8
     if x < 10 { b'0' + x } else { b'a' + (x - 10) }
 }
 
-// Puts a byte.
+// Puts a byte at a place of a text, and says which place comes next, as the functions below do.
 pub fn put_byte(text: &mut [u8], at: usize, b: u8) -> usize
     requires { ⌜ at < length (now text) ⌝ }
     ensures { λ r. ⌜ Puts at 1 (b ∷ []) (now (text .entry)) (now (text .exit)) r ⌝ }
@@ -411,7 +417,8 @@ fn put_four(text: &mut [u8], at: usize, x: u16)
 // Puts bytes as hex pairs, `-` where there are none.
 pub fn put_bytes(text: &mut [u8], at: usize, bytes: &[u8]) -> usize
     requires { ⌜ at + 1 + 2 * length (now bytes) ≤ length (now text) ⌝ }
-    ensures { λ r. ⌜ Puts at (1 + 2 * length (now (bytes .entry))) (shown (hexOfBytes (now (bytes .entry)))) (now (text .entry)) (now (text .exit)) r ⌝ }
+    ensures { λ r. ⌜ Puts at (1 + 2 * length (now (bytes .entry))) (shown (hexOfBytes (now (bytes .entry))))
+        (now (text .entry)) (now (text .exit)) r ⌝ }
 {
     if bytes.len() == 0 {
         return put_byte(text, at, b'-');
@@ -427,7 +434,8 @@ pub fn put_bytes(text: &mut [u8], at: usize, bytes: &[u8]) -> usize
 // Puts coefficients as four hex digits each, `-` where there are none.
 pub fn put_coefficients(text: &mut [u8], at: usize, coefficients: &[u16]) -> usize
     requires { ⌜ at + 1 + 4 * length (now coefficients) ≤ length (now text) ⌝ }
-    ensures { λ r. ⌜ Puts at (1 + 4 * length (now (coefficients .entry))) (shown (hexOfCoefficients (now (coefficients .entry)))) (now (text .entry)) (now (text .exit)) r ⌝ }
+    ensures { λ r. ⌜ Puts at (1 + 4 * length (now (coefficients .entry))) (shown (hexOfCoefficients (now (coefficients .entry))))
+        (now (text .entry)) (now (text .exit)) r ⌝ }
 {
     if coefficients.len() == 0 {
         return put_byte(text, at, b'-');

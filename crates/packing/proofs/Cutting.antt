@@ -3,7 +3,8 @@ use Prim.Native.Nat.{ℕ, _+_, _-_, _*_, _/_, _^_, _<_, _≤_}
 use mathlib.Core.List.{List, _++_, append-assoc, append-nil}
 use mathlib.Core.Path.{_≡_, sym, ap, _∙_}
 use native.Mathlib.Omega.{arith}
-use native.Mathlib.Nat.{lt-of-lt-of-le, le-of-mul-le-mul-left, lt-of-mul-lt-mul-left, mul-add, mul-assoc, mul-comm, mul-le-mul-left, mul-suc, mul-zero, one-mul, zero-add}
+use native.Mathlib.Nat.{lt-of-lt-of-le, le-of-mul-le-mul-left, lt-of-mul-lt-mul-left, mul-add, mul-assoc}
+use native.Mathlib.Nat.{mul-comm, mul-le-mul-left, mul-suc, mul-zero, one-mul, zero-add}
 use lib.ListN.{length, take, drop, length-append, length-drop, take-append-drop}
 use lib.Pow.{add-lt-pow, pow-add, pow-mono, pow-pos, shl-lt, shr-lt}
 use lib.Seq.{drop-drop, length-sets, length-take-le, sets, sets-eq, take-all, take-at}

@@ -5,7 +5,9 @@ use mathlib.Core.Path.{_≡_, refl, sym, ap, _∙_}
 use native.Mathlib.Omega.{arith}
 use native.Mathlib.Decide.{decLt}
 use native.Mathlib.Numerals.{add-one}
-use native.Mathlib.Nat.{add-div-right, add-mod-right, add-mul-div-left, add-mul-mod-self-left, div-div-eq-div-mul, div-eq-of-lt, div-lt-iff-lt-mul, mod-add-div, mod-eq-of-lt, mod-lt, mul-add, mul-add-div, mul-assoc, mul-div-right, mul-le-mul-left, mul-suc, mul-zero, pow-suc, pow-succ', pow-zero, suc-add, zero-add}
+use native.Mathlib.Nat.{add-div-right, add-mod-right, add-mul-div-left, add-mul-mod-self-left, div-div-eq-div-mul, div-eq-of-lt}
+use native.Mathlib.Nat.{div-lt-iff-lt-mul, mod-add-div, mod-eq-of-lt, mod-lt, mul-add, mul-add-div, mul-assoc, mul-div-right}
+use native.Mathlib.Nat.{mul-le-mul-left, mul-suc, mul-zero, pow-suc, pow-succ', pow-zero, suc-add, zero-add}
 use lib.ListN.{length, length-append}
 use lib.Pow.{pow-pos, pow-add, shr-shr}
 use Rattle.packing.specs.Packing.{number, digits, recut, packed, unpacked, Below, bit, streamBit}

@@ -11,11 +11,11 @@ use lib.ListN.{length, length-map}
 use lib.Seq.{take-all}
 use borrow.Author.Tests.{eqb-true, lt-ltb}
 use Rattle.questions.specs.Answers.{allBelow}
-use Rattle.questions.specs.Laws.{from-cong, all-below-true, asked, and-left, and-right, or-cases}
+use Rattle.questions.specs.Laws.{from-cong, asked, and-left, and-right, or-cases}
 use Rattle.algebra.specs.Integers.{modℤ, sum}
-use Rattle.algebra.specs.Reduced.{residues-coarser, residues-nat, residues-below, inner-residues}
-use Rattle.algebra.specs.Product.{length-mul, length-inner}
-use Rattle.algebra.specs.Vectors.{poly-map, blocks-cong, length-blocks, poly-blocks}
+use Rattle.algebra.specs.Reduced.{residues-coarser, residues-nat, inner-residues}
+use Rattle.algebra.specs.Product.{length-inner}
+use Rattle.algebra.specs.Vectors.{poly-map, blocks-cong, length-blocks}
 use Rattle.algebra.specs.Ring.{coef, inner, mul, nat, residues, poly}
 use Rattle.ring.specs.Products.{product, innerMod, matrixRow, matrixVector, mulAnswer}
 use Rattle.ring.specs.Rounding.{round, roundAnswer}
@@ -77,15 +77,7 @@ inner-secret l a s =
     inner-same 1024 (omega arith) (nat (residues 8192 s)) s
     (residues-coarser 1024 (omega arith) 8 (omega arith) (nat (residues 8192 s)) s (residues-nat 8192 (omega arith) s)) l a
 
--- lengths, and the polynomials of a product with a matrix
-pub length-product : (m : ℕ) (a b : List ℕ) → length (product m a b) ≡ 256
-unfolding product
-length-product m a b = length-map (mul 256 (nat a) (nat b)) (λ z. modℤ z m) ∙ length-mul 256 (nat a) (nat b)
-
-pub length-innerMod : (m l : ℕ) (a : List ℕ) (s : List ℤ) → length (innerMod m l a s) ≡ 256
-unfolding innerMod
-length-innerMod m l a s = length-map (inner 256 l _ _) (λ z. modℤ z m) ∙ length-inner 256 l _ _
-
+-- the length of a product with a matrix
 module _ (l : ℕ) (M : ℕ → ℕ → List ℕ) (s : List ℤ) where
   length-row : (i : ℕ) → length (matrixRow l M s i) ≡ 256
   unfolding matrixRow
@@ -95,17 +87,7 @@ module _ (l : ℕ) (M : ℕ → ℕ → List ℕ) (s : List ℤ) where
   unfolding matrixVector
   length-matrixVector = length-blocks 256 l (matrixRow l M s) (λ i h. length-row i)
 
-  pub poly-matrixVector : (i : ℕ) → i < l → poly (matrixVector l M s) i ≡ matrixRow l M s i
-  unfolding matrixVector
-  poly-matrixVector = poly-blocks l (matrixRow l M s) (λ i h. length-row i)
-
--- the bounds of what is written
-pub inner-below : (m l : ℕ) (a : List ℕ) (s : List ℤ) → 0 < m → allBelow m (innerMod m l a s) ≡ true
-unfolding innerMod
-inner-below m l a s h =
-    let z = inner 256 l (λ i. nat (poly a i)) (λ i. poly s i) in
-    all-below-true m (residues m z) (λ k q. residues-below m h z k)
-
+-- the bound of what rounding gives
 pub round-below : (x : List ℕ) → allBelow 1024 (map round x) ≡ true
 unfolding allBelow
 round-below [] = refl

@@ -22,7 +22,8 @@ pub extern "C" fn saber_keygen(
     public_key: &mut [u8],
     secret_key: &mut [u8],
 ) -> u8
-    ensures { λ r. ⌜ Made set (now («matrix_seed» .entry)) (now («secret_seed» .entry)) (now (z .entry)) (now («public_key» .entry)) (now («secret_key» .entry)) r (now («public_key» .exit)) (now («secret_key» .exit)) ⌝ }
+    ensures { λ r. ⌜ Made set (now («matrix_seed» .entry)) (now («secret_seed» .entry)) (now (z .entry)) (now («public_key» .entry))
+        (now («secret_key» .entry)) r (now («public_key» .exit)) (now («secret_key» .exit)) ⌝ }
 {
     kem::keygen(set, matrix_seed, secret_seed, z, public_key, secret_key)
 }
@@ -36,7 +37,8 @@ pub extern "C" fn saber_encaps(
     ciphertext: &mut [u8],
     shared_secret: &mut [u8],
 ) -> u8
-    ensures { λ r. ⌜ Encapsulated set (now («public_key» .entry)) (now (seed .entry)) (now (ciphertext .entry)) (now («shared_secret» .entry)) r (now (ciphertext .exit)) (now («shared_secret» .exit)) ⌝ }
+    ensures { λ r. ⌜ Encapsulated set (now («public_key» .entry)) (now (seed .entry)) (now (ciphertext .entry))
+        (now («shared_secret» .entry)) r (now (ciphertext .exit)) (now («shared_secret» .exit)) ⌝ }
 {
     kem::encaps(set, public_key, seed, ciphertext, shared_secret)
 }
@@ -49,7 +51,8 @@ pub extern "C" fn saber_decaps(
     ciphertext: &[u8],
     shared_secret: &mut [u8],
 ) -> u8
-    ensures { λ r. ⌜ Decapsulated set (now («secret_key» .entry)) (now (ciphertext .entry)) (now («shared_secret» .entry)) r (now («shared_secret» .exit)) ⌝ }
+    ensures { λ r. ⌜ Decapsulated set (now («secret_key» .entry)) (now (ciphertext .entry)) (now («shared_secret» .entry))
+        r (now («shared_secret» .exit)) ⌝ }
 {
     kem::decaps(set, secret_key, ciphertext, shared_secret)
 }
@@ -63,7 +66,8 @@ pub extern "C" fn saber_encrypt(
     seed: &[u8],
     ciphertext: &mut [u8],
 ) -> u8
-    ensures { λ r. ⌜ Encrypted set (now («public_key» .entry)) (now (message .entry)) (now (seed .entry)) (now (ciphertext .entry)) r (now (ciphertext .exit)) ⌝ }
+    ensures { λ r. ⌜ Encrypted set (now («public_key» .entry)) (now (message .entry)) (now (seed .entry)) (now (ciphertext .entry))
+        r (now (ciphertext .exit)) ⌝ }
 {
     pke::encrypt(set, public_key, message, seed, ciphertext)
 }
@@ -76,7 +80,8 @@ pub extern "C" fn saber_decrypt(
     ciphertext: &[u8],
     message: &mut [u8],
 ) -> u8
-    ensures { λ r. ⌜ Decrypted set (now («plain_secret» .entry)) (now (ciphertext .entry)) (now (message .entry)) r (now (message .exit)) ⌝ }
+    ensures { λ r. ⌜ Decrypted set (now («plain_secret» .entry)) (now (ciphertext .entry)) (now (message .entry))
+        r (now (message .exit)) ⌝ }
 {
     pke::decrypt(set, plain_secret, ciphertext, message)
 }

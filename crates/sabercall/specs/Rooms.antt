@@ -25,13 +25,13 @@ pub record OutputsIn (line : ℕ) (r : Outputs) : Type 0 where
   pub result-in : r .result ≤ 16384
   pub next-in : r .next .at ≤ line + 1
 
--- each argument lies in its buffer, of these lengths
-pub record SizesIn (first second third left right output extra result : ℕ) (r : Arguments) : Type 0 where
-  pub first-in : r .first ≤ first
-  pub second-in : r .second ≤ second
-  pub third-in : r .third ≤ third
-  pub left-in : r .left ≤ left
-  pub right-in : r .right ≤ right
+-- each argument lies in its buffer, the outputs in buffers of these lengths
+pub record SizesIn (output extra result : ℕ) (r : Arguments) : Type 0 where
+  pub first-in : r .first ≤ 32768
+  pub second-in : r .second ≤ 32768
+  pub third-in : r .third ≤ 32768
+  pub left-in : r .left ≤ 16384
+  pub right-in : r .right ≤ 16384
   pub output-in : r .output ≤ output
   pub extra-in : r .extra ≤ extra
   pub result-in : r .result ≤ result

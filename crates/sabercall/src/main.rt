@@ -1,4 +1,5 @@
 // Reads requests from standard input, a line each, makes the call that each names, and writes its answer.
+ghost use mathlib.Core.Path.{_≡_};
 ghost use Prim.Native.Nat.{_+_, _*_, _≤_};
 ghost use lib.ListN.{length};
 ghost use Rattle.notation.specs.Notation.{hexOfBytes, hexOfCoefficients};
@@ -13,7 +14,7 @@ use notation::Reason;
 // A line of 65,536 bytes, with a place more by which a longer one is known.
 type Line = [u8; 65537];
 
-// A line has at most so many bytes as hex pairs, and so many coefficients.
+// The most bytes that a line can spell, and the most coefficients.
 type Bytes = [u8; 32768];
 
 type List = [u16; 16384];
@@ -223,20 +224,13 @@ fn make_call(
 }
 
 // Reads as many byte strings as a call takes.
-fn read_strings(
-    count: u8,
-    line: &[u8],
-    cursor: Cursor,
-    first: &mut Bytes,
-    second: &mut Bytes,
-    third: &mut Bytes,
-) -> Strings
+fn read_strings(count: u8, line: &[u8], cursor: Cursor, strings: &mut [Bytes; 3]) -> Strings
     requires { ⌜ (cursor .at ≤ length (now line) + 1) × (length (now line) ≤ 65536) ⌝ }
     ensures { λ r. ⌜ StringsIn (length (now (line .entry))) r ⌝ }
 {
-    let a = notation::read_bytes(count > 0, line, cursor, first);
-    let b = notation::read_bytes(count > 1, line, a.next, second);
-    let c = notation::read_bytes(count > 2, line, b.next, third);
+    let a = notation::read_bytes(count > 0, line, cursor, &mut strings[0]);
+    let b = notation::read_bytes(count > 1, line, a.next, &mut strings[1]);
+    let c = notation::read_bytes(count > 2, line, b.next, &mut strings[2]);
     let next = c.next;
     Strings {
         first: a.size,
@@ -247,12 +241,12 @@ fn read_strings(
 }
 
 // Reads as many lists as a call takes.
-fn read_lists(count: u8, line: &[u8], cursor: Cursor, left: &mut List, right: &mut List) -> Lists
+fn read_lists(count: u8, line: &[u8], cursor: Cursor, lists: &mut [List; 2]) -> Lists
     requires { ⌜ (cursor .at ≤ length (now line) + 1) × (length (now line) ≤ 65536) ⌝ }
     ensures { λ r. ⌜ ListsIn (length (now (line .entry))) r ⌝ }
 {
-    let x = notation::read_coefficients(count > 0, line, cursor, left);
-    let y = notation::read_coefficients(count > 1, line, x.next, right);
+    let x = notation::read_coefficients(count > 0, line, cursor, &mut lists[0]);
+    let y = notation::read_coefficients(count > 1, line, x.next, &mut lists[1]);
     let next = y.next;
     Lists {
         left: x.size,
@@ -290,21 +284,18 @@ fn read(
     shape: Shape,
     line: &[u8],
     at: usize,
-    first: &mut Bytes,
-    second: &mut Bytes,
-    third: &mut Bytes,
-    left: &mut List,
-    right: &mut List,
+    strings: &mut [Bytes; 3],
+    lists: &mut [List; 2],
     output: &mut Bytes,
     extra: &mut Bytes,
     result: &mut List,
 ) -> Arguments
     requires { ⌜ (at ≤ length (now line) + 1) × (length (now line) ≤ 65536) ⌝ }
-    ensures { λ r. ⌜ SizesIn 32768 32768 32768 16384 16384 32768 32768 16384 r ⌝ }
+    ensures { λ r. ⌜ SizesIn 32768 32768 16384 r ⌝ }
 {
     let n = notation::read_number(shape.numbers > 0, line, at);
-    let s = read_strings(shape.strings, line, n.next, first, second, third);
-    let l = read_lists(shape.lists, line, s.next, left, right);
+    let s = read_strings(shape.strings, line, n.next, strings);
+    let l = read_lists(shape.lists, line, s.next, lists);
     let o = read_outputs(shape, line, l.next, output, extra, result);
     Arguments {
         number: n.value,
@@ -338,7 +329,8 @@ fn put_reason(text: &mut [u8], at: usize, reason: Reason) -> usize
 // Puts a space and then bytes, where they are wanted.
 fn put_bytes(wanted: bool, text: &mut [u8], at: usize, bytes: &[u8]) -> usize
     requires { ⌜ at + 2 + 2 * length (now bytes) ≤ length (now text) ⌝ }
-    ensures { λ r. ⌜ Puts at (2 + 2 * length (now (bytes .entry))) (output wanted (hexOfBytes (now (bytes .entry)))) (now (text .entry)) (now (text .exit)) r ⌝ }
+    ensures { λ r. ⌜ Puts at (2 + 2 * length (now (bytes .entry))) (output wanted (hexOfBytes (now (bytes .entry))))
+        (now (text .entry)) (now (text .exit)) r ⌝ }
 {
     if wanted {
         let i = notation::put_byte(text, at, b' ');
@@ -348,9 +340,11 @@ fn put_bytes(wanted: bool, text: &mut [u8], at: usize, bytes: &[u8]) -> usize
     }
 }
 
+// The same for a list.
 fn put_list(wanted: bool, text: &mut [u8], at: usize, list: &[u16]) -> usize
     requires { ⌜ at + 2 + 4 * length (now list) ≤ length (now text) ⌝ }
-    ensures { λ r. ⌜ Puts at (2 + 4 * length (now (list .entry))) (output wanted (hexOfCoefficients (now (list .entry)))) (now (text .entry)) (now (text .exit)) r ⌝ }
+    ensures { λ r. ⌜ Puts at (2 + 4 * length (now (list .entry))) (output wanted (hexOfCoefficients (now (list .entry))))
+        (now (text .entry)) (now (text .exit)) r ⌝ }
 {
     if wanted {
         let i = notation::put_byte(text, at, b' ');
@@ -371,7 +365,9 @@ fn put_answer(
     at: usize,
 ) -> usize
     requires { ⌜ at + longest (length (now output)) (length (now extra)) (length (now result)) ≤ length (now text) ⌝ }
-    ensures { λ r. ⌜ Puts at (longest (length (now (output .entry))) (length (now (extra .entry))) (length (now (result .entry)))) (answerLine shape answer (now (output .entry)) (now (extra .entry)) (now (result .entry))) (now (text .entry)) (now (text .exit)) r ⌝ }
+    ensures { λ r. ⌜ Puts at (longest (length (now (output .entry))) (length (now (extra .entry))) (length (now (result .entry))))
+        (answerLine shape answer (now (output .entry)) (now (extra .entry)) (now (result .entry)))
+        (now (text .entry)) (now (text .exit)) r ⌝ }
 {
     let i = notation::put_decimal(text, at, answer);
     let j = put_bytes(shape.byte_outputs > 0, text, i, output);
@@ -380,80 +376,75 @@ fn put_answer(
     notation::put_byte(text, l, b'\n')
 }
 
-// Makes a call, and puts its answer.
-fn perform(
-    call: Call,
-    shape: Shape,
-    number: u32,
-    first: &[u8],
-    second: &[u8],
-    third: &[u8],
-    left: &[u16],
-    right: &[u16],
-    output: &mut [u8],
-    extra: &mut [u8],
-    result: &mut [u16],
-    text: &mut [u8],
-    at: usize,
-) -> usize
-    requires { ⌜ at + longest (length (now output)) (length (now extra)) (length (now result)) ≤ length (now text) ⌝ }
-    ensures { λ r. ⌜ Short at (longest (length (now (output .entry))) (length (now (extra .entry))) (length (now (result .entry)))) r ⌝ }
+// The first n bytes of a buffer.
+fn front(bytes: &[u8], n: usize) -> &[u8]
+    requires { ⌜ n ≤ length (now bytes) ⌝ }
+    ensures { λ r. ⌜ length (now r) ≡ n ⌝ }
 {
-    let answer = make_call(
-        call,
-        number,
-        first,
-        second,
-        third,
-        left,
-        right,
-        output,
-        extra,
-        result,
-    );
-    put_answer(shape, answer, output, extra, result, text, at)
+    &bytes[0..n]
 }
 
-// The same on the arguments that were read.
-fn perform_on(
+// The same for a list.
+fn list_front(list: &[u16], n: usize) -> &[u16]
+    requires { ⌜ n ≤ length (now list) ⌝ }
+    ensures { λ r. ⌜ length (now r) ≡ n ⌝ }
+{
+    &list[0..n]
+}
+
+// Makes a call on the arguments that were read, each of which is the front of its buffer.
+fn call_on(
     call: Call,
-    shape: Shape,
     a: Arguments,
-    first: &[u8],
-    second: &[u8],
-    third: &[u8],
-    left: &[u16],
-    right: &[u16],
+    strings: &[Bytes; 3],
+    lists: &[List; 2],
     output: &mut [u8],
     extra: &mut [u8],
     result: &mut [u16],
-    text: &mut [u8],
-    at: usize,
-) -> usize
-    requires { ⌜ SizesIn (length (now first)) (length (now second)) (length (now third)) (length (now left)) (length (now right)) (length (now output)) (length (now extra)) (length (now result)) a ⌝ }
-    requires { ⌜ at + longest (length (now output)) (length (now extra)) (length (now result)) ≤ length (now text) ⌝ }
-    ensures { λ r. ⌜ r ≤ length (now (text .entry)) ⌝ }
+) -> u8
+    requires { ⌜ SizesIn (length (now output)) (length (now extra)) (length (now result)) a ⌝ }
 {
-    let i = a.first;
-    let j = a.second;
-    let k = a.third;
-    let m = a.left;
-    let n = a.right;
     let o = a.output;
     let p = a.extra;
     let q = a.result;
-    perform(
+    make_call(
         call,
-        shape,
         a.number,
-        &first[0..i],
-        &second[0..j],
-        &third[0..k],
-        &left[0..m],
-        &right[0..n],
+        front(&strings[0], a.first),
+        front(&strings[1], a.second),
+        front(&strings[2], a.third),
+        list_front(&lists[0], a.left),
+        list_front(&lists[1], a.right),
         &mut output[0..o],
         &mut extra[0..p],
         &mut result[0..q],
+    )
+}
+
+// The same, and puts the answer.
+fn perform(
+    call: Call,
+    shape: Shape,
+    a: Arguments,
+    strings: &[Bytes; 3],
+    lists: &[List; 2],
+    output: &mut [u8],
+    extra: &mut [u8],
+    result: &mut [u16],
+    text: &mut [u8],
+    at: usize,
+) -> usize
+    requires { ⌜ SizesIn (length (now output)) (length (now extra)) (length (now result)) a ⌝ }
+    requires { ⌜ at + longest (a .output) (a .extra) (a .result) ≤ length (now text) ⌝ }
+    ensures { λ r. ⌜ Short at (longest (a .output) (a .extra) (a .result)) r ⌝ }
+{
+    let answer = call_on(call, a, strings, lists, output, extra, result);
+    put_answer(
+        shape,
+        answer,
+        front(output, a.output),
+        front(extra, a.extra),
+        list_front(result, a.result),
         text,
         at,
     )
@@ -464,11 +455,8 @@ fn answer_call(
     call: Call,
     line: &[u8],
     from: usize,
-    first: &mut Bytes,
-    second: &mut Bytes,
-    third: &mut Bytes,
-    left: &mut List,
-    right: &mut List,
+    strings: &mut [Bytes; 3],
+    lists: &mut [List; 2],
     output: &mut Bytes,
     extra: &mut Bytes,
     result: &mut List,
@@ -480,30 +468,15 @@ fn answer_call(
     ensures { λ r. ⌜ r ≤ 262208 ⌝ }
 {
     let shape = shape_of(call);
-    let a = read(
-        shape,
-        line,
-        from,
-        first,
-        second,
-        third,
-        left,
-        right,
-        output,
-        extra,
-        result,
-    );
+    let a = read(shape, line, from, strings, lists, output, extra, result);
     let reading = a.reading;
     match reading {
-        Reading::Sound => perform_on(
+        Reading::Sound => perform(
             call,
             shape,
             a,
-            first,
-            second,
-            third,
-            left,
-            right,
+            strings,
+            lists,
             output,
             extra,
             result,
@@ -514,18 +487,18 @@ fn answer_call(
     }
 }
 
-// The public key inside the secret key of the first `size` bytes.
-fn public_key(set: u32, bytes: &[u8], size: usize) -> &[u8]
-    requires { ⌜ size ≤ length (now bytes) ⌝ }
-    ensures { λ r. ⌜ length (now r) ≤ length (now (bytes .entry)) ⌝ }
+// The public key inside a secret key.
+fn public_key(set: u32, secret_key: &[u8]) -> &[u8]
+    ensures { λ r. ⌜ length (now r) ≤ length (now («secret_key» .entry)) ⌝ }
 {
-    sets::public_key_of(set, &bytes[0..size])
+    sets::public_key_of(set, secret_key)
 }
 
 // Puts the line of a lookup: the part that it hands back.
 fn put_part(part: &[u8], text: &mut [u8], at: usize) -> usize
     requires { ⌜ at + longest (length (now part)) 0 0 ≤ length (now text) ⌝ }
-    ensures { λ r. ⌜ Puts at (longest (length (now (part .entry))) 0 0) (partLine (now (part .entry))) (now (text .entry)) (now (text .exit)) r ⌝ }
+    ensures { λ r. ⌜ Puts at (longest (length (now (part .entry))) 0 0) (partLine (now (part .entry)))
+        (now (text .entry)) (now (text .exit)) r ⌝ }
 {
     let i = notation::put_bytes(text, at, part);
     notation::put_byte(text, i, b'\n')
@@ -540,49 +513,8 @@ fn answer_lookup(line: &[u8], from: usize, bytes: &mut Bytes, text: &mut Text, a
     let set = notation::read_number(true, line, from);
     let key = notation::read_bytes(true, line, set.next, bytes);
     match notation::finish(line, key.next) {
-        Reading::Sound => put_part(public_key(set.value, bytes, key.size), text, at),
+        Reading::Sound => put_part(public_key(set.value, front(bytes, key.size)), text, at),
         Reading::Unreadable(reason) => put_reason(text, at, reason),
-    }
-}
-
-// Answers a request.
-fn answer_request(
-    line: &[u8],
-    first: &mut Bytes,
-    second: &mut Bytes,
-    third: &mut Bytes,
-    left: &mut List,
-    right: &mut List,
-    output: &mut Bytes,
-    extra: &mut Bytes,
-    result: &mut List,
-    text: &mut Text,
-    at: usize,
-) -> usize
-    requires { ⌜ length (now line) ≤ 65536 ⌝ }
-    requires { ⌜ at ≤ 65536 ⌝ }
-    ensures { λ r. ⌜ r ≤ 262208 ⌝ }
-{
-    let end = notation::word_end(line, 0);
-    let from = end + 1;
-    match request_of(&line[0..end]) {
-        Request::Call(call) => answer_call(
-            call,
-            line,
-            from,
-            first,
-            second,
-            third,
-            left,
-            right,
-            output,
-            extra,
-            result,
-            text,
-            at,
-        ),
-        Request::PublicKeyOf => answer_lookup(line, from, first, text, at),
-        Request::Unknown => put_reason(text, at, Reason::UnknownCall),
     }
 }
 
@@ -598,11 +530,8 @@ fn is_comment(line: &[u8]) -> bool {
 fn answer_line(
     line: &[u8],
     kept: usize,
-    first: &mut Bytes,
-    second: &mut Bytes,
-    third: &mut Bytes,
-    left: &mut List,
-    right: &mut List,
+    strings: &mut [Bytes; 3],
+    lists: &mut [List; 2],
     output: &mut Bytes,
     extra: &mut Bytes,
     result: &mut List,
@@ -620,19 +549,24 @@ fn answer_line(
     if kept > 65536 {
         return put_reason(text, at, Reason::TooLong);
     }
-    answer_request(
-        request,
-        first,
-        second,
-        third,
-        left,
-        right,
-        output,
-        extra,
-        result,
-        text,
-        at,
-    )
+    let end = notation::word_end(request, 0);
+    let from = end + 1;
+    match request_of(&request[0..end]) {
+        Request::Call(call) => answer_call(
+            call,
+            request,
+            from,
+            strings,
+            lists,
+            output,
+            extra,
+            result,
+            text,
+            at,
+        ),
+        Request::PublicKeyOf => answer_lookup(request, from, &mut strings[0], text, at),
+        Request::Unknown => put_reason(text, at, Reason::UnknownCall),
+    }
 }
 
 // Writes the first n bytes of the text where they are more than `most`, and says how many wait.
@@ -697,11 +631,8 @@ fn may_wait(open: bool) -> usize
 // Answers a line that is whole, and writes the text where much of it waits.
 fn turn(
     line: &Line,
-    first: &mut Bytes,
-    second: &mut Bytes,
-    third: &mut Bytes,
-    left: &mut List,
-    right: &mut List,
+    strings: &mut [Bytes; 3],
+    lists: &mut [List; 2],
     output: &mut Bytes,
     extra: &mut Bytes,
     result: &mut List,
@@ -717,11 +648,8 @@ fn turn(
     let n = answer_line(
         line,
         s.kept,
-        first,
-        second,
-        third,
-        left,
-        right,
+        strings,
+        lists,
         output,
         extra,
         result,
@@ -750,6 +678,14 @@ fn list_buffer() -> List {
     [0; 16384]
 }
 
+fn string_buffers() -> [Bytes; 3] {
+    [[0; 32768]; 3]
+}
+
+fn list_buffers() -> [List; 2] {
+    [[0; 16384]; 2]
+}
+
 fn text_buffer() -> Text {
     [0; 262208]
 }
@@ -758,11 +694,8 @@ fn text_buffer() -> Text {
 fn main() {
     let mut block = io::large_buffer();
     let mut line = line_buffer();
-    let mut first = byte_buffer();
-    let mut second = byte_buffer();
-    let mut third = byte_buffer();
-    let mut left = list_buffer();
-    let mut right = list_buffer();
+    let mut strings = string_buffers();
+    let mut lists = list_buffers();
     let mut output = byte_buffer();
     let mut extra = byte_buffer();
     let mut result = list_buffer();
@@ -783,11 +716,8 @@ fn main() {
         let next = advance(&mut block, &mut line, &text, s);
         let after = turn(
             &line,
-            &mut first,
-            &mut second,
-            &mut third,
-            &mut left,
-            &mut right,
+            &mut strings,
+            &mut lists,
             &mut output,
             &mut extra,
             &mut result,

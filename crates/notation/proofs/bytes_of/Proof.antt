@@ -1,11 +1,10 @@
 -- `notation::bytes_of` meets its contract: the bytes that are written and what is left of the word spell the whole.
 use Prim.Native.Nat.{_*_, _-_, _≤_}
 use mathlib.Core.Path.{_≡_, refl}
-use native.Mathlib.Omega.{arith}
 use lib.ListN.{length, take, drop, length-set}
 use borrow.Author.Needs.{needs}
 use Rattle.notation.specs.Notation.{join, bytesOfHex}
-use Rattle.notation.specs.Loops.{Spelling, bytes-more, pair-bad-at, spelling-bad, spelling-done}
+use Rattle.notation.specs.Loops.{Spelling, spelling-more, spelling-bad, spelling-done, pair-spelt, pair-bad-at}
 use Rattle.notation.proofs.bytes_of.Statement.{statement}
 use Rattle.notation.proofs.bytes_of.Tie as tie
 
@@ -21,19 +20,24 @@ loop-holds c = (search needs, refl, record { digits = refl; items = refl })
 
 returns : tie.Need-returns Inv-loop μ-loop
 returns c =
-    spelling-bad (pair-bad-at _ (2 * c .before .before .before .before .before .loop .i) (search needs) (omega (arith, c .before .pair-value .ensures .0)))
-    (c .before .before .before .before .before .loop .inv .2)
+    let value = c .before .pair-value .ensures .0 in
+    let turn = c .before .before .before .before .before .loop in
+    spelling-bad (pair-bad-at _ (2 * turn .i) _ refl (search needs) value (search needs)) (turn .inv .2)
 
 loop-again : tie.Need-loop-again Inv-loop μ-loop
-loop-again c = (
-  search needs,
-  simp length-set (search needs),
-  bytes-more _ _ _ _ (search needs) (search needs) (c .before .pair-value .ensures .0) (search needs) (c .before .before .before .before .before .loop .inv .2),
-)
+loop-again c =
+    let value = c .before .pair-value .ensures .0 in
+    let turn = c .before .before .before .before .before .loop in (
+      search needs,
+      simp length-set (search needs),
+      spelling-more 2 _ (search needs) (pair-spelt _ (2 * turn .i) _ refl (search needs) value (search needs)) (turn .inv .2),
+    )
 
 returns-2 : tie.Need-returns-2 Inv-loop μ-loop
 unfolding join
-returns-2 c = spelling-done _ _ (2 * c .before .loop .i) (c .before .loop .i) (search needs) (search needs) refl (c .before .loop .inv .2)
+returns-2 c =
+    let end = c .before .loop in
+    spelling-done _ _ (2 * end .i) (end .i) (search needs) (search needs) refl (end .inv .2)
 
 pub bytes-of-spec : {M : Type 1} → statement M
 bytes-of-spec =

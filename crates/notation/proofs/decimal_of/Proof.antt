@@ -22,10 +22,16 @@ loop-holds : tie.Need-loop-holds Inv-loop μ-loop
 loop-holds c = record { within = search needs; small = search needs; digits = refl; number = refl }
 
 returns-2 : tie.Need-returns-2 Inv-loop μ-loop
-returns-2 c = sym (decimal-bad (c .before .before .before .before .loop .inv) (search needs) (search needs) (omega (arith, c .before .digit-value .ensures .0)))
+returns-2 c =
+    let digit = c .before in
+    let turn = digit .before .before .before .loop in
+    sym (decimal-bad (turn .inv) (search needs) (search needs) (omega (arith, digit .digit-value .ensures .0)))
 
 loop-again : tie.Need-loop-again Inv-loop μ-loop
-loop-again c = counting-more (search needs) (c .before .before .digit-value .ensures .0) (search needs) (c .capped .ensures) (c .before .before .before .before .before .loop .inv)
+loop-again c =
+    let digit = c .before .before in
+    let turn = digit .before .before .before .loop in
+    counting-more (search needs) (digit .digit-value .ensures .0) (search needs) (c .capped .ensures) (turn .inv)
 
 returns-3 : tie.Need-returns-3 Inv-loop μ-loop
 returns-3 c = sym (decimal-large (c .before .before .loop .inv) (search needs) (search needs) (search needs))

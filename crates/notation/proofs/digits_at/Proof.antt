@@ -7,35 +7,36 @@ use Rattle.notation.proofs.digits_at.Tie as tie
 
 returns : tie.Need-returns
 returns c =
-    digits-none (c .no-digits .ensures) (search needs)
-    (word-dash _ _ _ _ (c .before .before .before .before .before .word-end .ensures) (c .before .sound .ensures .0)
-    (sym (c .before .before .before .is-dash .ensures) ∙ c .before .before .if1 .taken)
-    (c .before .sound .ensures .1))
+    let test = c .before .before .before in
+    let word = test .before .before in
+    digits-none (c .no-digits .ensures) (c .before .sound .ensures) (search needs)
+    (word-dash _ (word .word-end .ensures) (sym (test .is-dash .ensures) ∙ c .before .before .if1 .taken))
 
 returns-2 : tie.Need-returns-2
 returns-2 c =
-    digits-none (c .no-digits2 .ensures) (search needs)
-    (word-empty _ _ _ _ (c .before .before .before .before .before .before .word-end .ensures) (c .before .unreadable .ensures .0)
-    (sym (c .before .before .before .before .is-dash .ensures) ∙ c .before .before .before .if1 .left)
-    (c .before .before .if2 .taken)
-    (c .before .unreadable .ensures .1))
+    let some = c .before .before .before in
+    let test = some .before in
+    let word = test .before .before in
+    digits-none (c .no-digits2 .ensures) (c .before .unreadable .ensures) (search needs)
+    (word-empty _ (word .word-end .ensures) (sym (test .is-dash .ensures) ∙ some .if1 .left) (c .before .before .if2 .taken))
 
 returns-3 : tie.Need-returns-3
 returns-3 c =
-    digits-none (c .no-digits3 .ensures) (search needs)
-    (word-odd _ _ _ _ (c .before .before .before .before .before .before .before .word-end .ensures) (c .before .unreadable2 .ensures .0)
-    (sym (c .before .before .before .before .before .is-dash .ensures) ∙ c .before .before .before .before .if1 .left)
-    (c .before .before .before .if2 .left)
-    (c .before .before .if3 .taken)
-    (c .before .unreadable2 .ensures .1))
+    let odd = c .before .before in
+    let some = odd .before .before in
+    let test = some .before in
+    let word = test .before .before in
+    digits-none (c .no-digits3 .ensures) (c .before .unreadable2 .ensures) (search needs)
+    (word-odd _ (word .word-end .ensures) (sym (test .is-dash .ensures) ∙ some .if1 .left) (odd .before .if2 .left) (odd .if3 .taken))
 
 returns-4 : tie.Need-returns-4
 returns-4 c =
-    digits-whole _ _ _ _ (c .before .before .before .before .before .before .word-end .ensures) (c .sound2 .ensures .0)
-    (sym (c .before .before .before .before .is-dash .ensures) ∙ c .before .before .before .if1 .left)
-    (c .before .before .if2 .left)
-    (c .before .if3 .left)
-    (c .sound2 .ensures .1)
+    let even = c .before in
+    let some = even .before .before in
+    let test = some .before in
+    let word = test .before .before in
+    digits-whole _ (word .word-end .ensures) (sym (test .is-dash .ensures) ∙ some .if1 .left) (even .before .if2 .left) (even .if3 .left)
+    (c .sound2 .ensures)
 
 pub digits-at-spec : {M : Type 1} → statement M
 digits-at-spec =

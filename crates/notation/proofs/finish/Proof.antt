@@ -6,10 +6,14 @@ use Rattle.notation.proofs.finish.Statement.{statement}
 use Rattle.notation.proofs.finish.Tie as tie
 
 returns : tie.Need-returns
-returns c = simp (sym (c .before .before .before .is-sound .ensures) ∙ c .before .before .if1 .taken, lt-ltb _ _ (c .if2 .taken))
+returns c =
+    let test = c .before .before in
+    simp (sym (test .before .is-sound .ensures) ∙ test .if1 .taken, lt-ltb _ _ (c .if2 .taken))
 
 returns-2 : tie.Need-returns-2
-returns-2 c = simp (sym (c .before .before .before .is-sound .ensures) ∙ c .before .before .if1 .taken, le-ltb _ _ (c .if2 .left))
+returns-2 c =
+    let test = c .before .before in
+    simp (sym (test .before .is-sound .ensures) ∙ test .if1 .taken, le-ltb _ _ (c .if2 .left))
 
 pub finish-spec : {M : Type 1} → statement M
 finish-spec =

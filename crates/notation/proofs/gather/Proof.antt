@@ -20,8 +20,9 @@ returns c = gathering-whole (search needs) (c .if1 .taken) (c .before .before .b
 
 loop-again : tie.Need-loop-again Inv-loop μ-loop
 loop-again c =
-    gathering-more (search needs) (c .before .before .before .before .if1 .left) (c .before .before .before .before .before .before .before .loop .inv)
-    (c .before .before .keep .ensures .0) (c .before .before .keep .ensures .1)
+    let kept = c .before .before in
+    let test = kept .before .before in
+    gathering-more (search needs) (test .if1 .left) (test .before .before .before .loop .inv) (kept .keep .ensures .0) (kept .keep .ensures .1)
 
 returns-2 : tie.Need-returns-2 Inv-loop μ-loop
 returns-2 c = gathering-part (search needs) (c .before .loop .inv)

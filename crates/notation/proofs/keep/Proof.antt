@@ -6,9 +6,6 @@ use lib.Seq.{set-out}
 use Rattle.notation.proofs.keep.Statement.{statement}
 use Rattle.notation.proofs.keep.Tie as tie
 
-returns-2 : tie.Need-returns-2
-returns-2 c = (omega arith, sym (set-out _ _ _ (search needs)))
-
 pub keep-spec : {M : Type 1} → statement M
 keep-spec =
     tie.close
@@ -17,4 +14,4 @@ keep-spec =
     (λ c. search needs)
     (λ c. search needs)
     (λ c. search needs)
-    returns-2)
+    (λ c. (omega arith, sym (set-out _ _ _ (search needs)))))

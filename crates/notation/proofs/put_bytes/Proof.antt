@@ -18,14 +18,20 @@ abbrev μ-loop : tie.MeasureT-loop
 μ-loop text₀ at bytes i₀ text i = length bytes - i
 
 returns : tie.Need-returns Inv-loop μ-loop
-returns c = puts-as (sym (shown-none _ (omega (arith, length-hex (c .before .before .before .before .before .before .before .args .bytes .now))))) (search needs) (c .before .before .put-byte .ensures)
+returns c =
+    let put = c .before .before in
+    let start = put .before .before .before .before .before in
+    puts-as (sym (shown-none _ (omega (arith, length-hex (start .args .bytes .now))))) (search needs) (put .put-byte .ensures)
 
 loop-holds : tie.Need-loop-holds Inv-loop μ-loop
 loop-holds c = showing-none (search needs)
 
 loop-again : tie.Need-loop-again Inv-loop μ-loop
 unfolding split
-loop-again c = showing-more (λ x xs. refl) (search needs) (c .before .before .before .before .before .before .loop .inv) (c .before .before .put-pair .ensures) (search needs)
+loop-again c =
+    let put = c .before .before in
+    let turn = put .before .before .before .before .loop in
+    showing-more (λ x xs. refl) (search needs) (turn .inv) (put .put-pair .ensures) (search needs)
 
 returns-2 : tie.Need-returns-2 Inv-loop μ-loop
 unfolding split

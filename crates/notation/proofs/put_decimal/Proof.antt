@@ -11,14 +11,17 @@ returns c = puts-as (sym (decimal-one _ (search needs))) (search needs) (c .befo
 
 returns-2 : tie.Need-returns-2
 returns-2 c =
-    puts-as (sym (decimal-two _ (search needs) (search needs))) (search needs)
-    (puts-then (c .before .before .before .before .before .before .put-byte2 .ensures) (c .before .before .put-byte3 .ensures))
+    let low = c .before .before in
+    let high = low .before .before .before .before in
+    puts-as (sym (decimal-two _ (search needs) (search needs))) (search needs) (puts-then (high .put-byte2 .ensures) (low .put-byte3 .ensures))
 
 returns-3 : tie.Need-returns-3
 returns-3 c =
+    let low = c .before .before in
+    let middle = low .before .before .before .before in
+    let high = middle .before .before .before .before in
     puts-as (sym (decimal-three _ (search needs))) (search needs)
-    (puts-then (c .before .before .before .before .before .before .before .before .before .before .put-byte4 .ensures)
-    (puts-then (c .before .before .before .before .before .before .put-byte5 .ensures) (c .before .before .put-byte6 .ensures)))
+    (puts-then (high .put-byte4 .ensures) (puts-then (middle .put-byte5 .ensures) (low .put-byte6 .ensures)))
 
 pub put-decimal-spec : {M : Type 1} → statement M
 put-decimal-spec =

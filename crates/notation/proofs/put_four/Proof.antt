@@ -5,7 +5,10 @@ use Rattle.notation.proofs.put_four.Statement.{statement}
 use Rattle.notation.proofs.put_four.Tie as tie
 
 returns : tie.Need-returns
-returns c = puts-four _ _ _ (c .before .before .before .before .before .before .put-pair .ensures) (c .before .before .put-pair2 .ensures)
+returns c =
+    let low = c .before .before in
+    let high = low .before .before .before .before in
+    puts-four _ _ _ (high .put-pair .ensures) (low .put-pair2 .ensures)
 
 pub put-four-spec : {M : Type 1} → statement M
 put-four-spec =

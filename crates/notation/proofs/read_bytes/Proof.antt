@@ -9,8 +9,9 @@ use Rattle.notation.proofs.read_bytes.Tie as tie
 returns : tie.Need-returns
 unfolding join
 returns c =
-    reads-done _ refl (c .before .before .before .before .before .before .next-word .ensures) (c .before .before .before .bytes-of .ensures) (c .after .ensures .0)
-    (c .after .ensures .1) (search needs) (search needs)
+    let digits = c .before .before .before in
+    let word = digits .before .before .before in
+    reads-done _ refl (word .next-word .ensures) (digits .bytes-of .ensures) (c .after .ensures) (search needs) (search needs)
 
 pub read-bytes-spec : {M : Type 1} → statement M
 read-bytes-spec =

@@ -7,21 +7,26 @@ use Rattle.notation.proofs.read_number.Statement.{statement}
 use Rattle.notation.proofs.read_number.Tie as tie
 
 returns : tie.Need-returns
-returns c = number-unwanted (not-true _ (c .before .if1 .taken)) (search needs) (c .sound .ensures .0) (c .sound .ensures .1)
+returns c = number-unwanted (not-true _ (c .before .if1 .taken)) (search needs) (c .sound .ensures)
 
 returns-2 : tie.Need-returns-2
 returns-2 c =
-    number-missing (not-false _ (c .before .before .if1 .left)) (c .before .if2 .taken) (search needs) (c .unreadable .ensures .0) (c .unreadable .ensures .1)
+    let past = c .before in
+    number-missing (not-false _ (past .before .if1 .left)) (past .if2 .taken) (search needs) (c .unreadable .ensures)
 
 returns-3 : tie.Need-returns-3
 returns-3 c =
-    number-value (not-false _ (c .before .before .before .before .before .before .before .before .if1 .left)) (search needs) (c .before .before .before .before .before .before .word-end .ensures) (c .sound2 .ensures .0)
-    (sym (c .before .before .before .before .decimal-of .ensures) ∙ c .before .before .value .given .1) (c .sound2 .ensures .1)
+    let decimal = c .before .before .before .before in
+    let word = decimal .before .before in
+    number-value (not-false _ (word .before .before .if1 .left)) (search needs) (word .word-end .ensures)
+    (sym (decimal .decimal-of .ensures) ∙ c .before .before .value .given .1) (c .sound2 .ensures)
 
 returns-4 : tie.Need-returns-4
 returns-4 c =
-    number-fault (not-false _ (c .before .before .before .before .before .before .before .before .if1 .left)) (search needs) (c .before .before .before .before .before .before .word-end .ensures) (c .unreadable2 .ensures .0)
-    (sym (c .before .before .before .before .decimal-of .ensures) ∙ c .before .before .reason .given .1) (c .unreadable2 .ensures .1)
+    let decimal = c .before .before .before .before in
+    let word = decimal .before .before in
+    number-fault (not-false _ (word .before .before .if1 .left)) (search needs) (word .word-end .ensures)
+    (sym (decimal .decimal-of .ensures) ∙ c .before .before .reason .given .1) (c .unreadable2 .ensures)
 
 pub read-number-spec : {M : Type 1} → statement M
 read-number-spec =

@@ -20,13 +20,18 @@ loop-holds c = record { within = search needs; left = refl }
 
 returns : tie.Need-returns Inv-loop μ-loop
 returns c =
-    record { end = omega (arith, ap length (until-here 32 (c .before .before .before .before .args .line .now) (c .before .before .before .loop .e) (search needs) (c .if1 .taken))); within = search needs }
+    let turn = c .before .before .before in
+    let here = until-here 32 (turn .before .args .line .now) (turn .loop .e) (search needs) (c .if1 .taken) in
+    record { end = omega (arith, ap length here); within = search needs }
 
 loop-again : tie.Need-loop-again Inv-loop μ-loop
 loop-again c = passing-more (search needs) (c .if1 .left) (c .before .before .before .loop .inv)
 
 returns-2 : tie.Need-returns-2 Inv-loop μ-loop
-returns-2 c = record { end = omega (arith, ap length (until-end 32 (c .before .before .args .line .now) (c .before .loop .e) (search needs))); within = search needs }
+returns-2 c =
+    let turn = c .before in
+    let end = until-end 32 (turn .before .args .line .now) (turn .loop .e) (search needs) in
+    record { end = omega (arith, ap length end); within = search needs }
 
 pub word-end-spec : {M : Type 1} → statement M
 word-end-spec =

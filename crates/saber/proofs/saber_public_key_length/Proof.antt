@@ -3,8 +3,5 @@ use borrow.Author.Needs.{needs}
 use Rattle.saber.proofs.saber_public_key_length.Statement.{statement}
 use Rattle.saber.proofs.saber_public_key_length.Tie as tie
 
-returns : tie.Need-returns
-returns c = cc
-
 pub saber-public-key-length-spec : {M : Type 1} → statement M
-saber-public-key-length-spec = tie.close (tie.spec (λ c κs. search needs) (λ c κs. search needs) (λ c κs. search needs) returns)
+saber-public-key-length-spec = tie.close (tie.spec (λ c κs. search needs) (λ c κs. search needs) (λ c κs. search needs) (λ c. cc))

@@ -5,12 +5,10 @@ use Rattle.sabercall.proofs.main.Statement.{statement}
 use Rattle.sabercall.proofs.main.Tie as tie
 
 abbrev Inv-loop : tie.InvT-loop
-Inv-loop block₀ line₀ first₀ second₀ third₀ left₀ right₀ output₀ extra₀ result₀ text₀ s₀ turns₀ block line first second third left right output extra result text s turns =
-    Good s
+Inv-loop _ _ _ _ _ _ _ _ _ _ _ _ _ _ _ _ _ _ s _ = Good s
 
 abbrev μ-loop : tie.MeasureT-loop
-μ-loop block₀ line₀ first₀ second₀ third₀ left₀ right₀ output₀ extra₀ result₀ text₀ s₀ turns₀ block line first second third left right output extra result text s turns =
-    turns
+μ-loop _ _ _ _ _ _ _ _ _ _ _ _ _ _ _ _ _ _ _ turns = turns
 
 pub main-spec : {M : Type 1} → statement M
 main-spec =
@@ -18,9 +16,6 @@ main-spec =
     (tie.spec
     Inv-loop
     μ-loop
-    (λ c κs. search needs)
-    (λ c κs. search needs)
-    (λ c κs. search needs)
     (λ c κs. search needs)
     (λ c κs. search needs)
     (λ c κs. search needs)

@@ -7,10 +7,15 @@ use Rattle.sabercall.proofs.put_answer.Tie as tie
 
 returns : tie.Need-returns
 returns c =
+    let newline = c .before .before in
+    let list = newline .before .before .before .before in
+    let extra = list .before .before .before .before .before in
+    let output = extra .before .before .before .before .before in
+    let number = output .before .before .before .before .before in
     puts-as refl (search needs)
-    (puts-then (c .before .before .before .before .before .before .before .before .before .before .before .before .before .before .before .before .before .before .before .before .before .put-decimal .ensures)
-    (puts-then (c .before .before .before .before .before .before .before .before .before .before .before .before .before .before .before .before .put-bytes .ensures)
-    (puts-then (c .before .before .before .before .before .before .before .before .before .before .before .put-bytes2 .ensures) (puts-then (c .before .before .before .before .before .before .put-list .ensures) (c .before .before .put-byte .ensures)))))
+    (puts-then (number .put-decimal .ensures)
+    (puts-then (output .put-bytes .ensures)
+    (puts-then (extra .put-bytes2 .ensures) (puts-then (list .put-list .ensures) (newline .put-byte .ensures)))))
 
 pub put-answer-spec : {M : Type 1} → statement M
 put-answer-spec =

@@ -6,7 +6,10 @@ use Rattle.sabercall.proofs.put_part.Statement.{statement}
 use Rattle.sabercall.proofs.put_part.Tie as tie
 
 returns : tie.Need-returns
-returns c = puts-as refl (search needs) (puts-then (c .before .before .before .before .before .before .put-bytes .ensures) (c .before .before .put-byte .ensures))
+returns c =
+    let newline = c .before .before in
+    let part = newline .before .before .before .before in
+    puts-as refl (search needs) (puts-then (part .put-bytes .ensures) (newline .put-byte .ensures))
 
 pub put-part-spec : {M : Type 1} → statement M
 put-part-spec =
