@@ -1,9 +1,10 @@
 #!/usr/bin/env python3
-"""The repository's figures by crate, for docs/PROOFS.md: lines of code, of definitions, of laws and of proofs, neither blank nor comment nor
-import, and the wrong programs that the check must refuse. Definitions are what a reader has to believe; of a file that has laws too every
-line counts as a definition."""
+"""figures.py LOG: the repository's figures by crate, for docs/PROOFS.md: lines of code, of definitions, of laws and of proofs, neither blank
+nor comment nor import, the wrong programs that the check must refuse, and the seconds that the check took, from LOG, what `rt ci` printed.
+Definitions are what a reader has to believe; of a file that has laws too every line counts as a definition."""
 import pathlib
 import re
+import sys
 
 CRATES = pathlib.Path(__file__).resolve().parent.parent / "crates"
 DEFINITIONS = """Answers Lists Sets Keccak Tables Sponge Packing Integers Ring Products Rounding Sampling Reconciliation Pke Kem Same Noise Claim
@@ -16,10 +17,13 @@ def lines(paths):
 
 
 def main():
+    if len(sys.argv) != 2:
+        sys.exit(__doc__)
     order = [line.split(":")[0] for line in (CRATES.parent / "crates.txt").read_text().splitlines() if not line.startswith("#")]
-    total = [0] * 5
-    print(f"| {'crate':14} | code | definitions | laws | proofs | wrong programs |")
-    print("|---|--:|--:|--:|--:|--:|")
+    seconds = dict(re.findall(r"^rt: (\w+) proved \((\d+) s\)", pathlib.Path(sys.argv[1]).read_text(), re.MULTILINE))
+    total = [0] * 6
+    print("| crate | code | definitions | laws | proofs | wrong programs | seconds |")
+    print("|---|--:|--:|--:|--:|--:|--:|")
     for name in order:
         specs = [path for path in (CRATES / name).glob("specs/*.antt") if path.stem != "Lib"]
         row = [
@@ -28,9 +32,10 @@ def main():
             lines(path for path in specs if path.stem not in DEFINITIONS),
             lines((CRATES / name).glob("proofs/**/*.antt")),
             len(list((CRATES / name).glob("must-fail/*.edit"))),
+            int(seconds[name]),
         ]
         total = [sum(pair) for pair in zip(total, row)]
-        print(f"| {'`' + name + '`':14} |" + " |".join(f" {number:,}" for number in row) + " |")
+        print(f"| `{name}` |" + " |".join(f" {number:,}" for number in row) + " |")
     print("| all |" + " |".join(f" {number:,}" for number in total) + " |")
 
 
