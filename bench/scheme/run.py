@@ -103,16 +103,15 @@ def main():
         times = [(cycles, cycles / megahertz) for cycles in library[row]]
         times += [(TABLE_3[row], TABLE_3[row] / TABLE_3_MEGAHERTZ), (plain[row][1], plain[row][1] / megahertz)]
         times += [(java[row] * megahertz, java[row])] if java else []
-        cells = "".join(f"{cycles:>11,.0f}{micro:>7.1f}" for cycles, micro in times)
-        print(f"{SETS[row[0]]:11}{row[1]:7}{cells}{'' if java else f'{chr(45):>18}'}")
+        print(f"{SETS[row[0]]:11}{row[1]:7}" + "".join(f"{cycles:>11,.0f}{micro:>7.1f}" for cycles, micro in times))
     print()
     print("the library: its median cycles as a part of the others', and repeatable figures")
     print(f"{'':18}{'Table 3':>9}{'(least)':>9}{'plain C':>9}{'Bouncy':>9}{'instructions':>15}{'Keccak-f':>10}{'products':>10}{'stack':>9}")
     for row in ROWS:
         least, median = library[row]
         keccak, product = shares(counts, *row)
-        castle = f"{median / (java[row] * megahertz):>9.2f}" if java else f"{'-':>9}"
-        print(f"{SETS[row[0]]:11}{row[1]:7}{median / TABLE_3[row]:>9.2f}{least / TABLE_3[row]:>9.2f}{median / plain[row][1]:>9.2f}{castle}"
+        castle = f"{median / (java[row] * megahertz):.2f}" if java else "-"
+        print(f"{SETS[row[0]]:11}{row[1]:7}{median / TABLE_3[row]:>9.2f}{least / TABLE_3[row]:>9.2f}{median / plain[row][1]:>9.2f}{castle:>9}"
               f"{counts[row]['TOTALS']:>15,}{keccak:>10.0%}{product:>10.0%}{stack[row]:>9,}")
 
 
