@@ -1,14 +1,13 @@
 #!/usr/bin/env python3
 """figures.py LOG: the repository's figures by crate, for docs/PROOFS.md: lines of code, of definitions, of laws and of proofs, neither blank
 nor comment nor import, the wrong programs that the check must refuse, and the seconds that the check took, from LOG, what `rt ci` printed.
-Definitions are what a reader has to believe; of a file that has laws too every line counts as a definition."""
+Definitions are the files whose first comment says `Definitions only.`; laws are the other files of specs/."""
 import pathlib
 import re
 import sys
 
 CRATES = pathlib.Path(__file__).resolve().parent.parent / "crates"
-DEFINITIONS = """Answers Lists Sets Keccak Tables Sponge Packing Integers Ring Products Rounding Sampling Reconciliation Pke Kem Same Noise Claim
-    Cases Lookup Text Notation Lines Promises""".split()
+MARK = "Definitions only."
 
 
 def lines(paths):
@@ -26,10 +25,11 @@ def main():
     print("|---|--:|--:|--:|--:|--:|--:|")
     for name in order:
         specs = [path for path in (CRATES / name).glob("specs/*.antt") if path.stem != "Lib"]
+        definitions = [path for path in specs if MARK in path.read_text()]
         row = [
             lines((CRATES / name).glob("src/*.rt")),
-            lines(path for path in specs if path.stem in DEFINITIONS),
-            lines(path for path in specs if path.stem not in DEFINITIONS),
+            lines(definitions),
+            lines(path for path in specs if path not in definitions),
             lines((CRATES / name).glob("proofs/**/*.antt")),
             len(list((CRATES / name).glob("must-fail/*.edit"))),
             int(seconds[name]),

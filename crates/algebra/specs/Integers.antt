@@ -1,11 +1,25 @@
--- Whole numbers: residues, and sums by a count. Definitions only.
-use Prim.Native.Nat.{ℕ, zero, suc, _-_, _%_}
+-- Whole numbers: how far they lie above and below zero, residues and quotients, and sums by a count. Definitions only.
+use Prim.Native.Nat.{ℕ, zero, suc, _-_, _/_, _%_}
 use lib.IntN.{ℤ, pos, negsuc, _+ℤ_}
+
+-- z is up z - dn z, one of which is 0
+abbrev pub up : ℤ → ℕ
+up (pos n) = n
+up (negsuc n) = 0
+
+abbrev pub dn : ℤ → ℕ
+dn (pos n) = 0
+dn (negsuc n) = suc n
 
 -- z modulo m, from 0 up to m - 1
 abbrev pub modℤ : ℤ → ℕ → ℕ
 modℤ (pos a) m = a % m
 modℤ (negsuc a) m = m - 1 - a % m
+
+-- z / m, rounded down
+abbrev pub quotℤ : ℤ → ℕ → ℤ
+quotℤ (pos a) m = pos (a / m)
+quotℤ (negsuc a) m = negsuc (a / m)
 
 -- f 0 + f 1 + .. + f (m - 1)
 unfoldable pub sum : ℕ → (ℕ → ℤ) → ℤ

@@ -4,13 +4,8 @@ use mathlib.Core.Path.{_≡_, refl, sym, _∙_, ap}
 use native.Mathlib.Nat.{add-mul-mod-self-left, div-add-mod, mod-lt, mod-eq-of-lt}
 use native.Mathlib.Omega.{arith}
 use lib.IntN.{ℤ, pos, negsuc, negℤ, _+ℤ_, _*ℤ_, _-ℤ_, *ℤ-comm}
-use Rattle.algebra.specs.Integers.{modℤ, sum}
-use Rattle.algebra.specs.Whole.{up, dn, up-neg, dn-neg, add-split, up-mul, dn-mul}
-
--- z / m, rounded down
-abbrev pub quotℤ : ℤ → ℕ → ℤ
-quotℤ (pos a) m = pos (a / m)
-quotℤ (negsuc a) m = negsuc (a / m)
+use Rattle.algebra.specs.Integers.{up, dn, modℤ, quotℤ, sum}
+use Rattle.algebra.specs.Whole.{up-neg, dn-neg, add-split, up-mul, dn-mul}
 
 pub mod-split : (z : ℤ) (m : ℕ) → 0 < m → up z + m * dn (quotℤ z m) ≡ dn z + (modℤ z m + m * up (quotℤ z m))
 mod-split (pos a) m h = omega (arith, div-add-mod a m)

@@ -5,14 +5,7 @@ use mathlib.Core.Path.{_≡_, refl, _∙_, ap}
 use native.Mathlib.Omega.{arith}
 use lib.Dec.{T, ltb, ltb→lt, nltb→le}
 use lib.IntN.{ℤ, pos, negsuc, negℤ, subℕ, _+ℤ_, _*ℤ_}
-
-abbrev pub up : ℤ → ℕ
-up (pos n) = n
-up (negsuc n) = 0
-
-abbrev pub dn : ℤ → ℕ
-dn (pos n) = 0
-dn (negsuc n) = suc n
+use Rattle.algebra.specs.Integers.{up, dn}
 
 -- two whole numbers are equal where the differences are
 pub eqℤ : (x y : ℤ) → up x + dn y ≡ up y + dn x → x ≡ y

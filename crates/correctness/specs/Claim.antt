@@ -1,4 +1,5 @@
--- Demand 3, as document 01's "Noise" reads it: the noise of the four seeds, when it is within the bounds, and what the four calls then give.
+-- Demand 3, as document 01's "Noise" reads it: the noise of the four seeds, when it is within the bounds, and what the steps and the four
+-- calls then give. Definitions only.
 use Prim.Native.Nat.{ℕ, _*_, _<_}
 use mathlib.Core.List.{List}
 use mathlib.Core.Path.{_≡_}
@@ -10,10 +11,12 @@ use Rattle.algebra.specs.Ring.{poly}
 use Rattle.ring.specs.Products.{entry}
 use Rattle.sha3.specs.Sponge.{shake128, sha3-256}
 use Rattle.sampling.specs.Sampling.{matrix, secret}
-use Rattle.kem.specs.Kem.{messageOf, coinsOf, publicKey}
+use Rattle.kem.specs.Kem.{messageOf, coinsOf, publicKey, secretKey, plainPart, sealedCiphertext, sealedSecret, unsealedSecret}
 use Rattle.kem.specs.Promises.{Made, Encapsulated, Decapsulated}
+use Rattle.pke.specs.Pke.{decrypted}
 use Rattle.pke.specs.Promises.{Decrypted}
 use Rattle.noise.specs.Noise.{Within, noise}
+use Rattle.correctness.specs.declared.SetNumbers.{SetNumbers}
 
 -- the matrix seed, the secret seed and the sealing seed
 module _ (p : Params) (matrixSeed secretSeed seed : List ℕ) where
@@ -33,28 +36,55 @@ module _ (p : Params) (matrixSeed secretSeed seed : List ℕ) where
   abbrev pub Quiet : Type 0
   Quiet = Within (p .margin) seedsNoise
 
--- a known set, four seeds of 32 bytes, and outputs of their results' lengths
-pub record Ready (set : ℕ) (matrixSeed secretSeed z seed pk sk ct ss message secret : ℕ) : Type 0 where
-  pub known : 0 < paramsOf set .l
+-- the keys and the ciphertext that the steps reckon from the four seeds
+module _ (p : Params) (matrixSeed secretSeed z seed : List ℕ) where
+  abbrev pub reckonedPublic : List ℕ
+  reckonedPublic = publicKey p matrixSeed secretSeed
+
+  abbrev pub reckonedSecret : List ℕ
+  reckonedSecret = secretKey p matrixSeed secretSeed z
+
+  abbrev pub reckonedCiphertext : List ℕ
+  reckonedCiphertext = sealedCiphertext p reckonedPublic seed
+
+  -- decryption of it gives back m, and unsealing the shared secret of sealing
+  pub record Returned : Type 0 where
+    pub message : decrypted p (plainPart p reckonedSecret) reckonedCiphertext ≡ messageOf seed
+    pub secret : unsealedSecret p reckonedSecret reckonedCiphertext ≡ sealedSecret p reckonedPublic seed
+
+-- the set that keys are made under
+abbrev pub rowOf : SetNumbers → Params
+rowOf sets = paramsOf (sets .keygen)
+
+-- the four set numbers mean one set, 0 counting as the set it means
+pub record OneSet (sets : SetNumbers) : Type 0 where
+  pub known : 0 < rowOf sets .l
+  pub encaps : paramsOf (sets .encaps) ≡ rowOf sets
+  pub decrypt : paramsOf (sets .decrypt) ≡ rowOf sets
+  pub decaps : paramsOf (sets .decaps) ≡ rowOf sets
+
+-- one set, four seeds of 32 bytes, and outputs of their results' lengths
+pub record Ready (sets : SetNumbers) (matrixSeed secretSeed z seed pk sk ct ss message secret : ℕ) : Type 0 where
+  pub oneSet : OneSet sets
   pub matrixSeedLong : matrixSeed ≡ 32
   pub secretSeedLong : secretSeed ≡ 32
   pub zLong : z ≡ 32
   pub seedLong : seed ≡ 32
-  pub pkLong : pk ≡ paramsOf set .pk
-  pub skLong : sk ≡ paramsOf set .sk
-  pub ctLong : ct ≡ paramsOf set .ct
+  pub pkLong : pk ≡ rowOf sets .pk
+  pub skLong : sk ≡ rowOf sets .sk
+  pub ctLong : ct ≡ rowOf sets .ct
   pub ssLong : ss ≡ 32
   pub messageLong : message ≡ 32
   pub secretLong : secret ≡ 32
 
 -- the four calls, each on what the earlier ones wrote: r1 .. r4 are their answers, a primed list is an output at exit
 pub record Calls
-    (set : ℕ) (matrixSeed secretSeed z seed pk sk ct ss message secret : List ℕ) (r1 r2 r3 r4 : ℕ)
+    (sets : SetNumbers) (matrixSeed secretSeed z seed pk sk ct ss message secret : List ℕ) (r1 r2 r3 r4 : ℕ)
     (pk' sk' ct' ss' message' secret' : List ℕ) : Type 0 where
-  pub making : Made set matrixSeed secretSeed z pk sk r1 pk' sk'
-  pub sealing : Encapsulated set pk' seed ct ss r2 ct' ss'
-  pub decryption : Decrypted set (take (416 * paramsOf set .l) sk') ct' message r3 message'
-  pub unsealing : Decapsulated set sk' ct' secret r4 secret'
+  pub making : Made (sets .keygen) matrixSeed secretSeed z pk sk r1 pk' sk'
+  pub sealing : Encapsulated (sets .encaps) pk' seed ct ss r2 ct' ss'
+  pub decryption : Decrypted (sets .decrypt) (plainPart (paramsOf (sets .decrypt)) sk') ct' message r3 message'
+  pub unsealing : Decapsulated (sets .decaps) sk' ct' secret r4 secret'
 
 -- no call refuses
 pub record Answered (r1 r2 r3 r4 : ℕ) : Type 0 where

@@ -1,4 +1,5 @@
 pub mod Claim
 pub mod Promises
 pub mod Opening
+pub mod Steps
 pub mod Theorem

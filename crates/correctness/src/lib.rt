@@ -7,6 +7,14 @@ ghost use Rattle.correctness.specs.Promises.{RoundTrip};
 ghost use Rattle.correctness.specs.Promises;
 use sets::set_params;
 
+// The set numbers that the four calls are made with.
+pub struct SetNumbers {
+    pub keygen: u32,
+    pub encaps: u32,
+    pub decrypt: u32,
+    pub decaps: u32,
+}
+
 // The earlier of two answers that is a refusal, and 0 where neither is.
 fn earliest(first: u8, later: u8) -> u8
     ensures { λ r. ⌜ r ≡ Promises.earliest first later ⌝ }
@@ -29,7 +37,7 @@ fn plain_secret_of(set: u32, secret_key: &[u8]) -> &[u8]
 
 // Makes keys, encapsulates, decrypts and decapsulates, each with what the calls before it wrote. Answers the earliest refusal.
 pub fn round_trip(
-    set: u32,
+    sets: SetNumbers,
     matrix_seed: &[u8],
     secret_seed: &[u8],
     z: &[u8],
@@ -41,15 +49,27 @@ pub fn round_trip(
     message: &mut [u8],
     opened_secret: &mut [u8],
 ) -> u8
-    ensures { λ r. ⌜ RoundTrip set (now («matrix_seed» .entry)) (now («secret_seed» .entry)) (now (z .entry)) (now (seed .entry))
+    ensures { λ r. ⌜ RoundTrip sets (now («matrix_seed» .entry)) (now («secret_seed» .entry)) (now (z .entry)) (now (seed .entry))
         (now («public_key» .entry)) (now («secret_key» .entry)) (now (ciphertext .entry)) (now («sealed_secret» .entry))
         (now (message .entry)) (now («opened_secret» .entry)) r
         (now («public_key» .exit)) (now («secret_key» .exit)) (now (ciphertext .exit)) (now («sealed_secret» .exit))
         (now (message .exit)) (now («opened_secret» .exit)) ⌝ }
 {
-    let r1 = kem::keygen(set, matrix_seed, secret_seed, z, public_key, secret_key);
-    let r2 = kem::encaps(set, public_key, seed, ciphertext, sealed_secret);
-    let r3 = pke::decrypt(set, plain_secret_of(set, secret_key), ciphertext, message);
-    let r4 = kem::decaps(set, secret_key, ciphertext, opened_secret);
+    let r1 = kem::keygen(
+        sets.keygen,
+        matrix_seed,
+        secret_seed,
+        z,
+        public_key,
+        secret_key,
+    );
+    let r2 = kem::encaps(sets.encaps, public_key, seed, ciphertext, sealed_secret);
+    let r3 = pke::decrypt(
+        sets.decrypt,
+        plain_secret_of(sets.decrypt, secret_key),
+        ciphertext,
+        message,
+    );
+    let r4 = kem::decaps(sets.decaps, secret_key, ciphertext, opened_secret);
     earliest(r1, earliest(r2, earliest(r3, r4)))
 }

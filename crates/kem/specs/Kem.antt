@@ -1,5 +1,5 @@
 -- Document 01, "Steps": making keys, sealing (encapsulation) and unsealing (decapsulation), of the set whose row in the table is p, and what
--- the three calls answer.
+-- the three calls answer. Definitions only.
 use Prim.Native.Nat.{ℕ, _+_, _*_}
 use mathlib.Core.Bool.{true, cond, _&&_}
 use mathlib.Core.List.{List, _++_}

@@ -1,4 +1,5 @@
 pub mod Same
+pub mod Comparison
 pub mod Kem
 pub mod Promises
 pub mod Laws

@@ -1,4 +1,5 @@
 pub mod Noise
+pub mod Example
 pub mod Errors
 pub mod Agreement
 pub mod Bit

@@ -6,9 +6,7 @@ use mathlib.Core.Path.{_≡_}
 use lib.IntN.{ℤ, pos, _+ℤ_, _-ℤ_}
 use lib.ListN.{length, getD}
 use Rattle.questions.specs.Lists.{from}
-use Rattle.algebra.specs.Integers.{modℤ}
-use Rattle.algebra.specs.Whole.{up, dn}
-use Rattle.algebra.specs.Residues.{quotℤ}
+use Rattle.algebra.specs.Integers.{up, dn, modℤ, quotℤ}
 use Rattle.algebra.specs.Ring.{at, inner, nat, residues}
 use Rattle.ring.specs.Rounding.{round}
 use Rattle.reconciliation.specs.Reconciliation.{masked}

@@ -1,4 +1,5 @@
 -- The notation of requests and answers: the words of a line, the digits, what they spell, and how bytes, coefficients and numbers are shown.
+-- Definitions only.
 use Prim.Native.Nat.{ℕ, _+_, _-_, _*_, _/_, _%_}
 use mathlib.Core.Bool.{Bool, true, false, cond, _&&_}
 use mathlib.Core.List.{List, [], _∷_, map}

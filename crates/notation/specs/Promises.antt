@@ -1,4 +1,4 @@
--- What the readers and the writers promise.
+-- What the readers and the writers promise. Definitions only.
 use Prim.Native.Nat.{ℕ, _+_, _*_, _≤_, min}
 use mathlib.Core.Bool.{Bool, true, cond}
 use mathlib.Core.List.{List, []}

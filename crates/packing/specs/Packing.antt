@@ -1,4 +1,5 @@
 -- Document 01, "Bytes": packing lays coefficient 0 first, least significant bit first, with no gaps. The definitions are for every width.
+-- Definitions only.
 use Prim.Native.Nat.{ℕ, zero, suc, _+_, _*_, _/_, _%_, _^_, _<_}
 use mathlib.Core.Bool.{Bool, _||_}
 use mathlib.Core.List.{List, [], _∷_}

@@ -1,4 +1,4 @@
--- Document 01, "Steps": encryption and decryption, of the set whose row in the table is p, and what the two calls answer.
+-- Document 01, "Steps": encryption and decryption, of the set whose row in the table is p, and what the two calls answer. Definitions only.
 use Prim.Native.Nat.{ℕ, _*_}
 use mathlib.Core.Bool.{Bool, true, false, _&&_}
 use mathlib.Core.List.{List, _++_, map}

@@ -1,5 +1,6 @@
 -- What encryption and decryption promise, and what the functions beneath them ask.
 -- r is the answer, a primed list is an output at exit. A `Room` is what a function asks of the lengths, a `Space` the same with those of lent places.
+-- Definitions only.
 use Prim.Native.Nat.{ℕ, _+_, _*_, _<_, _≤_}
 use mathlib.Core.List.{List}
 use mathlib.Core.Path.{_≡_}

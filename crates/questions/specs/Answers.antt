@@ -1,4 +1,4 @@
--- Document 01, "Questions asked of a call": the earliest no, and what an output holds at exit.
+-- Document 01, "Questions asked of a call": the earliest no, and what an output holds at exit. Definitions only.
 use Prim.Native.Nat.{ℕ, zero, suc}
 use mathlib.Core.Bool.{Bool, true, false, _&&_}
 use mathlib.Core.List.{List, [], _∷_}

@@ -1,4 +1,4 @@
--- What the calls promise, and what their inner forms ask.
+-- What the calls promise, and what their inner forms ask. Definitions only.
 use Prim.Native.Nat.{ℕ, _^_, _<_}
 use mathlib.Core.List.{List}
 use mathlib.Core.Path.{_≡_}

@@ -1,4 +1,5 @@
 -- Document 01, "Steps": the reconciliation data of encryption and the recovery of the message in decryption, and what the two calls answer.
+-- Definitions only.
 use Prim.Native.Nat.{ℕ, _+_, _*_, _/_, _%_}
 use mathlib.Core.Bool.{_&&_}
 use mathlib.Core.List.{List, map}

@@ -1,4 +1,4 @@
--- What the calls promise, and what the functions beneath them ask of their callers.
+-- What the calls promise, and what the functions beneath them ask of their callers. Definitions only.
 use Prim.Native.Nat.{ℕ, _+_, _*_, _<_, _≤_}
 use mathlib.Core.List.{List, map}
 use mathlib.Core.Logic.{_⊎_}

@@ -92,6 +92,14 @@ fn inner(l: usize, a: &[u16], start: usize, step: usize, s: &[u16]) -> [u16; 256
     acc
 }
 
+// x modulo m. Each modulus is a constant here, so that no division is made of a coefficient.
+fn residue(x: u16, m: u16) -> u16
+    requires { ⌜ Modulus m ⌝ }
+    ensures { λ r. ⌜ r ≡ x % m ⌝ }
+{
+    if m == 1024 { x % 1024 } else { x % 8192 }
+}
+
 // Each coefficient modulo m.
 fn reduce(acc: [u16; 256], m: u16, out: &mut [u16])
     requires { ⌜ Modulus m × (length (now out) ≡ 256) ⌝ }
@@ -99,7 +107,7 @@ fn reduce(acc: [u16; 256], m: u16, out: &mut [u16])
 {
     let mut k = 0;
     while k < out.len() {
-        out[k] = acc[k] % m;
+        out[k] = residue(acc[k], m);
         k += 1;
     }
 }

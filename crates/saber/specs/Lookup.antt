@@ -1,4 +1,5 @@
 -- The lookup of the public key inside a secret key, for callers that cannot be handed a part of a slice: where the part starts, and how long it is.
+-- Definitions only.
 use Prim.Native.Nat.{ℕ, zero, suc, _*_}
 use Rattle.sets.specs.Sets.{paramsOf, lookupAnswer}
 

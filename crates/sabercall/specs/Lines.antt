@@ -1,4 +1,4 @@
--- The lines that answer requests.
+-- The lines that answer requests. Definitions only.
 use Prim.Native.Nat.{ℕ}
 use mathlib.Core.Bool.{Bool, true, false}
 use mathlib.Core.List.{List, [], _∷_, _++_}

@@ -1,4 +1,4 @@
--- The lengths of the buffers, and places that lie in them.
+-- The lengths of the buffers, and places that lie in them. Definitions only.
 use Prim.Native.Nat.{ℕ, _+_, _*_, _≤_}
 use Rattle.sabercall.specs.declared.Arguments.{Arguments}
 use Rattle.sabercall.specs.declared.Strings.{Strings}

@@ -21,8 +21,8 @@ use Rattle.packing.specs.Laws.{recut-length, recut-below}
 use Rattle.sha3.specs.Sponge.{shake128}
 use Rattle.sha3.specs.Laws.{length-sponge}
 use Rattle.sampling.specs.Sampling.{matrix, differences, secretOf, secret, genMatrixAnswer, genSecretAnswer}
-use Rattle.sampling.specs.Promises.{MatrixRoom, SecretRoom, Pieces}
-use Rattle.sampling.specs.Halves.{weighed, secret-weighed}
+use Rattle.sampling.specs.Promises.{MatrixRoom, SecretRoom, Pieces, weighed}
+use Rattle.sampling.specs.Halves.{secret-weighed}
 
 -- the matrix: 256 l l numbers, each below 8192
 module _ (l : ℕ) (seed : List ℕ) where

@@ -1,10 +1,13 @@
--- What the calls promise, and what their inner forms ask.
-use Prim.Native.Nat.{ℕ, _*_, _%_, _<_, _≤_}
+-- What the calls promise, and what their inner forms ask. Definitions only.
+use Prim.Native.Nat.{ℕ, _*_, _/_, _%_, _^_, _<_, _≤_}
 use mathlib.Core.List.{List}
 use mathlib.Core.Path.{_≡_}
+use lib.Count.{ones}
+use lib.IntN.{pos, _-ℤ_}
 use lib.ListN.{length}
 use Rattle.questions.specs.Answers.{written}
 use Rattle.sets.specs.Sets.{paramsOf}
+use Rattle.algebra.specs.Integers.{modℤ}
 use Rattle.algebra.specs.Ring.{residues}
 use Rattle.sampling.specs.Sampling.{matrix, secret, genMatrixAnswer, genSecretAnswer}
 
@@ -28,6 +31,10 @@ pub record Pieces (mu : ℕ) : Type 0 where
   pub least : 0 < mu
   pub most : mu ≤ 16
   pub even : mu % 2 ≡ 0
+
+-- what `weigh` gives: the ones of the h low bits of x less those above them, modulo 8192
+abbrev pub weighed : ℕ → ℕ → ℕ
+weighed h x = modℤ (pos (ones (x % 2 ^ h)) -ℤ pos (ones (x / 2 ^ h))) 8192
 
 -- what `secret_into` asks: no more bytes than its buffer has, and a place for each coefficient
 pub record SecretRoom (l mu out : ℕ) : Type 0 where

@@ -1,4 +1,4 @@
--- Document 01, "Ring and sampling": the matrix and the secret that a seed gives, and what the two calls answer.
+-- Document 01, "Ring and sampling": the matrix and the secret that a seed gives, and what the two calls answer. Definitions only.
 use Prim.Native.Nat.{ℕ, _*_, _/_}
 use mathlib.Core.List.{List, [], _∷_}
 use lib.Count.{ones}

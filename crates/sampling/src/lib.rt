@@ -8,8 +8,7 @@ ghost use Rattle.packing.specs.Packing.{unpacked};
 ghost use Rattle.packing.specs.Promises.{Fills};
 ghost use Rattle.sha3.specs.Sponge.{shake128};
 ghost use Rattle.sampling.specs.Sampling.{matrix, secret, genMatrixAnswer, genSecretAnswer};
-ghost use Rattle.sampling.specs.Halves.{weighed};
-ghost use Rattle.sampling.specs.Promises.{GenMatrix, GenSecret, MatrixRoom, SecretRoom};
+ghost use Rattle.sampling.specs.Promises.{GenMatrix, GenSecret, MatrixRoom, SecretRoom, weighed};
 use questions::ask;
 use sets::set_params;
 

@@ -1,4 +1,4 @@
--- Document 01, "The three sets", and the lookup of the public key inside a secret key.
+-- Document 01, "The three sets", and the lookup of the public key inside a secret key. Definitions only.
 use Prim.Native.Nat.{ℕ, zero, suc, _*_}
 use mathlib.Core.Bool.{Bool}
 use mathlib.Core.List.{List, []}

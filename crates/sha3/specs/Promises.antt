@@ -1,4 +1,4 @@
--- What the calls promise: r is the answer, and the output holds `out` at entry and `out'` at exit.
+-- What the calls promise: r is the answer, and the output holds `out` at entry and `out'` at exit. Definitions only.
 use mathlib.Core.Path.{_≡_}
 use mathlib.Core.List.{List}
 use Prim.Native.Nat.{ℕ}

@@ -1,5 +1,5 @@
 -- Document 01, "Hashes", as FIPS 202 defines them, on bytes: the sponge of its section 4, and the three hashes of its section 6.
--- Throughout, r is the rate in bytes, and d the domain's bits and the first bit of the padding as a byte.
+-- Throughout, r is the rate in bytes, and d the domain's bits and the first bit of the padding as a byte. Definitions only.
 use Prim.Native.Nat.{ℕ, zero, suc, _+_, _-_, _*_, _/_, _%_, _^_}
 use mathlib.Core.List.{List, [], _∷_, _++_}
 use lib.ListN.{length, getD, take, drop, replicate}

@@ -1,6 +1,6 @@
 -- `correctness::earliest` meets its contract: by cases on the first answer.
 use borrow.Author.Needs.{needs}
-use Rattle.correctness.specs.Promises.{earliest-first}
+use Rattle.correctness.specs.Theorem.{earliest-first}
 use Rattle.correctness.proofs.earliest.Statement.{statement}
 use Rattle.correctness.proofs.earliest.Tie as tie
 

@@ -2,7 +2,7 @@
 use borrow.Author.Needs.{needs}
 use mathlib.Core.Path.{ap, _∙_}
 use Rattle.correctness.specs.Promises.{earliest}
-use Rattle.correctness.specs.Theorem.{decrypted-as, trip}
+use Rattle.correctness.specs.Theorem.{same-string, trip}
 use Rattle.correctness.proofs.round_trip.Statement.{statement}
 use Rattle.correctness.proofs.round_trip.Tie as tie
 
@@ -14,12 +14,12 @@ returns c =
     let sealed = plain .before .before .before .before .before .before in
     let made = sealed .before .before .before .before .before .before .before .before in
     let a = made .before .before .before .before .before .before .before .before .before .before .before .before .before .args in
-    trip (a .set) (a .«matrix-seed» .now) (a .«secret-seed» .now) (a .z .now) (a .seed .now) (a .«public-key» .now) (a .«secret-key» .now)
+    trip (a .sets) (a .«matrix-seed» .now) (a .«secret-seed» .now) (a .z .now) (a .seed .now) (a .«public-key» .now) (a .«secret-key» .now)
     (a .ciphertext .now) (a .«sealed-secret» .now) (a .message .now) (a .«opened-secret» .now)
     (record {
       making = made .keygen .ensures;
       sealing = sealed .encaps .ensures;
-      decryption = decrypted-as (plain .plain-secret-of .ensures) (decrypted .decrypt .ensures);
+      decryption = same-string (plain .plain-secret-of .ensures) (decrypted .decrypt .ensures);
       unsealing = unsealed .decaps .ensures;
     })
     (c .earliest3 .ensures

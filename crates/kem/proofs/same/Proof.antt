@@ -4,7 +4,8 @@ use mathlib.Core.Path.{_≡_, refl, _∙_}
 use native.Mathlib.Omega.{arith}
 use lib.ListN.{length, take}
 use borrow.Author.Needs.{needs}
-use Rattle.kem.specs.Same.{same, same-more, same-all}
+use Rattle.kem.specs.Same.{same}
+use Rattle.kem.specs.Comparison.{same-more, same-all}
 use Rattle.kem.proofs.same.Statement.{statement}
 use Rattle.kem.proofs.same.Tie as tie
 

@@ -1,7 +1,6 @@
 -- `ring::reduce` meets its contract: one coefficient a turn.
 use Prim.Native.Nat.{ℕ, _-_, _%_}
-use mathlib.Core.Logic.{⊎-elim}
-use mathlib.Core.Path.{refl, _∙_}
+use mathlib.Core.Path.{_∙_}
 use native.Mathlib.Omega.{arith}
 use borrow.Author.Needs.{needs}
 use lib.ListN.{getD}
@@ -16,9 +15,6 @@ Inv-loop m out₀ acc k₀ out k = Filled 256 out k (λ (k : ℕ). getD acc k 0 
 abbrev μ-loop : tie.MeasureT-loop
 μ-loop m out₀ acc k₀ out k = 256 - k
 
-rem-out : tie.Need-rem-out Inv-loop μ-loop
-rem-out c = ⊎-elim (λ e. omega arith) (λ e. omega arith) (c .before .before .pre .0)
-
 pub reduce-spec : {M : Type 1} → statement M
 reduce-spec =
     tie.close
@@ -28,11 +24,11 @@ reduce-spec =
     (λ c. fill-none (omega arith))
     (λ c. search needs)
     (λ c. search needs)
-    rem-out
+    (λ c κs. search needs)
     (λ c. search needs)
     (λ c. search needs)
     (λ c. search needs)
     (λ c. search needs)
-    (λ c. fill-more (omega arith) (c .before .loop .inv) refl)
+    (λ c. fill-more (omega arith) (c .before .before .loop .inv) (c .residue .ensures))
     (λ c. search needs)
-    (λ c. fill-all (omega arith) (c .before .loop .inv) ∙ from-map _ 256 (c .before .before .args .t1) 0 (omega arith)))
+    (λ c. fill-all (omega arith) (c .before .loop .inv) ∙ from-map _ 256 (c .before .before .before .args .t1) 0 (omega arith)))
