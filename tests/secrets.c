@@ -1,0 +1,173 @@
+// secrets SET: every call on content that is marked as undefined, for valgrind's memcheck, which then reports each jump and each address
+// that depends on it. tests/secrets.py runs this and holds the reports against a list.
+//
+// Seeds, messages, hash inputs and coefficients are marked; keys and ciphertexts are what the calls make of them, the public ones too.
+// Outputs are lent defined, so what is undefined afterwards came from a mark: each of their elements has to be, and no answer may be but
+// where Q8 asks about content. Prints each call with the number of reports that it gave.
+#include <saber.h>
+#include <stdio.h>
+#include <stdlib.h>
+#include <string.h>
+#include <valgrind/memcheck.h>
+
+#define SIZES(NAME) NAME##_RANK, NAME##_PUBLIC_KEY_BYTES, NAME##_SECRET_KEY_BYTES, NAME##_PLAIN_SECRET_BYTES, NAME##_CIPHERTEXT_BYTES
+
+static const struct {
+    size_t l, public_key, secret_key, plain_secret, ciphertext;
+    uint16_t data; // the bound of reconciliation data
+} sizes[] = {{SIZES(SABER), 16}, {SIZES(LIGHTSABER), 8}, {SIZES(SABER), 16}, {SIZES(FIRESABER), 64}};
+
+#define CHECK(condition)                                                    \
+    do {                                                                    \
+        if (!(condition)) {                                                 \
+            fprintf(stderr, "line %d: not so: %s\n", __LINE__, #condition); \
+            exit(1);                                                        \
+        }                                                                   \
+    } while (0)
+
+// How many of `count` elements hold an undefined bit.
+static size_t undefined(const void *elements, size_t count, size_t size) {
+    size_t found = 0;
+    for (size_t i = 0; i < count; i++) {
+        uint64_t bits = 0;
+        CHECK(VALGRIND_GET_VBITS((const char *)elements + i * size, &bits, size) == 1);
+        found += bits != 0;
+    }
+    return found;
+}
+
+#define ALL_SECRET(elements, count) CHECK(undefined(elements, count, sizeof *(elements)) == (count))
+#define NONE_SECRET(elements, count) CHECK(undefined(elements, count, sizeof *(elements)) == 0)
+
+// What an answer follows from: set number and lengths alone, or the content too where Q8 asks about it.
+enum { BY_LENGTHS, BY_CONTENT };
+
+#define ANSWERS(number, by, name, ...)                            \
+    do {                                                          \
+        unsigned before = VALGRIND_COUNT_ERRORS;                  \
+        uint8_t answer = saber_##name(__VA_ARGS__);               \
+        printf("%s %u\n", #name, VALGRIND_COUNT_ERRORS - before); \
+        if (by == BY_LENGTHS)                                     \
+            NONE_SECRET(&answer, 1);                              \
+        VALGRIND_MAKE_MEM_DEFINED(&answer, 1);                    \
+        CHECK(answer == (number));                                \
+    } while (0)
+
+// A call that writes its last output, each element of it from something marked.
+#define WRITES(output, count, by, name, ...)                           \
+    do {                                                               \
+        VALGRIND_MAKE_MEM_DEFINED(output, (count) * sizeof *(output)); \
+        ANSWERS(SABER_OK, by, name, __VA_ARGS__, output, count);       \
+        ALL_SECRET(output, count);                                     \
+    } while (0)
+
+static void mark_bytes(uint8_t *bytes, size_t count) {
+    static uint8_t next;
+    for (size_t i = 0; i < count; i++)
+        bytes[i] = next += 77;
+    VALGRIND_MAKE_MEM_UNDEFINED(bytes, count);
+}
+
+static void mark_list(uint16_t *list, uint16_t bound) {
+    for (unsigned i = 0; i < SABER_N; i++)
+        list[i] = (uint16_t)((4099 * i + 17) % bound);
+    VALGRIND_MAKE_MEM_UNDEFINED(list, SABER_N * sizeof *list);
+}
+
+// A jump and an address that depend on a marked byte, for memcheck to report.
+static volatile uint8_t control;
+static void control_jump(const uint8_t *byte) {
+    if (*byte == 0)
+        control = 1;
+}
+static void control_address(const uint8_t *byte) {
+    static const uint8_t table[256];
+    control = table[*byte];
+}
+
+static uint8_t seeds[4][SABER_SEED_BYTES], message[SABER_MESSAGE_BYTES], sent[SABER_SHARED_SECRET_BYTES], opened[SABER_SHARED_SECRET_BYTES];
+static uint8_t public_key[FIRESABER_PUBLIC_KEY_BYTES], secret_key[FIRESABER_SECRET_KEY_BYTES], ciphertext[FIRESABER_CIPHERTEXT_BYTES];
+
+static void scheme(uint32_t set) {
+    size_t pk = sizes[set].public_key, sk = sizes[set].secret_key, ct = sizes[set].ciphertext;
+    for (int i = 0; i < 4; i++)
+        mark_bytes(seeds[i], 32);
+    ANSWERS(SABER_OUTPUT_LENGTH, BY_LENGTHS, keygen, set, seeds[0], 32, seeds[1], 32, seeds[2], 32, public_key, pk, secret_key, sk - 1);
+    NONE_SECRET(public_key, pk);
+    NONE_SECRET(secret_key, sk);
+    WRITES(secret_key, sk, BY_LENGTHS, keygen, set, seeds[0], 32, seeds[1], 32, seeds[2], 32, public_key, pk);
+    ALL_SECRET(public_key, pk);
+
+    ANSWERS(SABER_OUTPUT_LENGTH, BY_LENGTHS, encaps, set, public_key, pk, seeds[3], 32, ciphertext, ct, sent, 31);
+    NONE_SECRET(ciphertext, ct);
+    NONE_SECRET(sent, 32);
+    WRITES(sent, 32, BY_LENGTHS, encaps, set, public_key, pk, seeds[3], 32, ciphertext, ct);
+    ALL_SECRET(ciphertext, ct);
+
+    ANSWERS(SABER_OUTPUT_LENGTH, BY_LENGTHS, decaps, set, secret_key, sk, ciphertext, ct, opened, 31);
+    NONE_SECRET(opened, 32);
+    VALGRIND_MAKE_MEM_DEFINED(sent, 32);
+    for (int damaged = 0; damaged < 2; damaged++) {
+        ciphertext[0] ^= (uint8_t)damaged;
+        WRITES(opened, 32, BY_LENGTHS, decaps, set, secret_key, sk, ciphertext, ct);
+        VALGRIND_MAKE_MEM_DEFINED(opened, 32);
+        CHECK((memcmp(sent, opened, 32) != 0) == damaged);
+    }
+
+    mark_bytes(message, 32);
+    WRITES(ciphertext, ct, BY_LENGTHS, encrypt, set, public_key, pk, message, 32, seeds[3], 32);
+    WRITES(message, 32, BY_LENGTHS, decrypt, set, secret_key, sizes[set].plain_secret, ciphertext, ct);
+}
+
+static void layers(uint32_t set) {
+    static const uint8_t widths[] = {1, 3, 4, 6, 10, 13};
+    static const uint16_t moduli[] = {1024, 8192};
+    static uint16_t a[SABER_N], b[SABER_N], list[SABER_N * FIRESABER_RANK * FIRESABER_RANK];
+    static uint8_t packed[32 * 13];
+    size_t l = sizes[set].l;
+    WRITES(list, SABER_N * l, BY_LENGTHS, gen_secret, set, seeds[0], 32);
+    WRITES(list, SABER_N * l * l, BY_LENGTHS, gen_matrix, set, seeds[0], 32);
+    for (int i = 0; i < 2; i++) {
+        mark_list(a, moduli[i]);
+        mark_list(b, moduli[i]);
+        WRITES(list, SABER_N, BY_CONTENT, poly_mul, moduli[i], a, SABER_N, b, SABER_N);
+    }
+    WRITES(list, SABER_N, BY_CONTENT, round, a, SABER_N);
+    mark_list(a, 1024);
+    mark_list(b, sizes[set].data);
+    WRITES(list, SABER_N, BY_CONTENT, recon_data, set, a, SABER_N);
+    WRITES(list, SABER_N, BY_CONTENT, recover, set, a, SABER_N, b, SABER_N);
+    for (int i = 0; i < 6; i++) {
+        size_t count = 32 * widths[i];
+        mark_list(a, (uint16_t)(1 << widths[i]));
+        WRITES(packed, count, BY_CONTENT, pack, widths[i], a, SABER_N);
+        WRITES(list, SABER_N, BY_LENGTHS, unpack, widths[i], packed, count);
+    }
+}
+
+// Inputs about every rate. The hash of no bytes depends on no mark.
+static void hashes(void) {
+    static uint8_t input[200], output[200];
+    ANSWERS(SABER_OK, BY_LENGTHS, shake128, input, 0, output, sizeof output);
+    NONE_SECRET(output, sizeof output);
+    for (size_t count = 1; count <= sizeof input; count++) {
+        mark_bytes(input, count);
+        WRITES(output, sizeof output, BY_LENGTHS, shake128, input, count);
+        WRITES(output, 32, BY_LENGTHS, sha3_256, input, count);
+        WRITES(output, 64, BY_LENGTHS, sha3_512, input, count);
+    }
+}
+
+int main(int count, char **words) {
+    uint32_t set = count == 2 ? (uint32_t)atol(words[1]) : 4;
+    if (set > 3 || !RUNNING_ON_VALGRIND) {
+        fprintf(stderr, "usage: valgrind secrets SET\n");
+        return 2;
+    }
+    scheme(set);
+    layers(set);
+    hashes();
+    control_jump(seeds[0]);
+    control_address(seeds[0]);
+    return 0;
+}

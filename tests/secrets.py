@@ -1,0 +1,97 @@
+"""Jumps and addresses that depend on secrets, as valgrind's memcheck finds them, against a list.
+
+    python3 tests/secrets.py
+
+Runs tests/secrets.c, which marks content as secret, under memcheck for each set number. Prints each jump and each
+address that depends on a mark: the function of the archive in which it stands (one that was compiled into another
+counts as that one), its places there in bytes, and the reason why it may stand. It exits with 1 where a place is
+not listed, where a listed one is not found, and where a call of the header is not run.
+"""
+
+import re
+import shutil
+import subprocess
+import sys
+import tempfile
+from collections import Counter, defaultdict
+from pathlib import Path
+from xml.etree import ElementTree
+
+ROOT = Path(__file__).resolve().parent.parent
+KINDS = {"UninitCondition": "jump", "UninitValue": "address"}
+LOOKUPS = {"public_key_offset", "public_key_length"}  # they read no content
+
+Q8 = "Q8 asks about each coefficient (questions::all_below), so the answer follows from the content"
+CONTROL = "a control, which has to be found"
+
+# How many places of a kind a function has, and why.
+LISTED = {
+    ("jump", "saber_decaps"): (1, "the choice of the shared or the rejected secret (kem::put_chosen_secret)"),
+    ("jump", "saber_pack"): (1, Q8),
+    ("jump", "saber_poly_mul"): (3, Q8),
+    ("jump", "saber_recon_data"): (1, Q8),
+    ("jump", "saber_recover"): (3, Q8),
+    ("jump", "saber_round"): (1, Q8),
+    ("jump", "control_jump"): (1, CONTROL),
+    ("address", "control_address"): (1, CONTROL),
+}
+
+
+def compile_to(program):
+    options = ["-std=c99", "-Wall", "-Wextra", "-pedantic", "-Werror", "-I", ROOT / "include"]
+    archive = ROOT / "target" / "staticlib" / "libsaber.a"
+    subprocess.run(["cc", *options, "-o", program, ROOT / "tests" / "secrets.c", archive], check=True)
+
+
+def memcheck(program, set_number):
+    """The places of each kind and function, and the number of reports of each call."""
+    reports = program.with_suffix(".xml")
+    # Chasing would take two jumps of a loop for one, and the loop's counter for a secret.
+    options = ["--error-limit=no", "--vex-guest-chase=no", "--sym-offsets=yes", "--xml=yes", f"--xml-file={reports}"]
+    done = subprocess.run(["valgrind", *options, program, str(set_number)], stdout=subprocess.PIPE, text=True)
+    if done.returncode != 0:
+        sys.exit(f"secrets, set {set_number}: the run ended with {done.returncode}")
+    places, calls = defaultdict(set), Counter()
+    for error in ElementTree.parse(reports).iter("error"):
+        kind = error.findtext("kind")
+        function, _, place = error.findtext("stack/frame/fn", "?").partition("+")
+        places[KINDS.get(kind, kind), function].add(int(place or 0))
+    for line in done.stdout.splitlines():
+        call, count = line.split()
+        calls[call] += int(count)
+    return places, calls
+
+
+def differences(places, calls, exported):
+    """What a run has otherwise than the list and the header."""
+    for key in sorted(LISTED.keys() | places.keys()):
+        count, _ = LISTED.get(key, (0, ""))
+        if len(places[key]) != count:
+            yield f"{' in '.join(key)}: {count} listed, found at {sorted(places[key])}, reports of {dict(+calls)}"
+    if calls.keys() != exported:
+        yield f"either run or in the header: {sorted(calls.keys() ^ exported)}"
+
+
+def main():
+    if not shutil.which("valgrind"):
+        print("skipped: tests/secrets.py (no valgrind)")
+        return 0
+    exported = set(re.findall(r"\w+ saber_(\w+)\([^;{]*;", (ROOT / "include" / "saber.h").read_text())) - LOOKUPS
+    with tempfile.TemporaryDirectory() as folder:
+        program = Path(folder) / "secrets"
+        compile_to(program)
+        runs = [memcheck(program, set_number) for set_number in range(4)]
+    wrong = [f"secrets, set {i}, {line}" for i, run in enumerate(runs) for line in differences(*run, exported)]
+    if wrong:
+        print(*wrong, sep="\n")
+        return 1
+    for key, (_, reason) in LISTED.items():
+        found = set().union(*(places[key] for places, _ in runs))
+        print(f"secrets: {' in '.join(key)} at {sorted(found)}: {reason}")
+    reported = sum((calls for _, calls in runs), Counter())
+    print("secrets: no report of", ", ".join(sorted(exported - reported.keys())))
+    return 0
+
+
+if __name__ == "__main__":
+    sys.exit(main())
