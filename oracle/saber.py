@@ -95,18 +95,20 @@ def SHA3_512(string):
     return hashlib.sha3_512(string).digest()
 
 
-# The ring: products are over whole numbers, X to the 256 equals -1, and are reduced where the text says
+# The ring: products are over whole numbers and are reduced where the text says. X to the n equals -1, where n is the
+# length of the polynomials: 256, but for a small example of the noise.
 
 
 def plain_product(a, b):
     """The product as defined."""
-    c = [0] * N
-    for i in range(N):
-        for j in range(N):
-            if i + j < N:
+    n = len(a)
+    c = [0] * n
+    for i in range(n):
+        for j in range(n):
+            if i + j < n:
                 c[i + j] += a[i] * b[j]
             else:
-                c[i + j - N] -= a[i] * b[j]
+                c[i + j - n] -= a[i] * b[j]
     return c
 
 
@@ -115,20 +117,24 @@ def at_point(polynomial):
     return sum(x << 64 * i for i, x in enumerate(polynomial))
 
 
-HALVES = at_point([1 << 63] * (2 * N))
+@functools.cache
+def halves(n):
+    """Half a digit at each of 2 n places."""
+    return at_point([1 << 63] * (2 * n))
 
 
 def product(a, b):
     """The same product by Kronecker substitution: one product of big numbers, read off in digits of 64 bits."""
     # Half a digit added at each place keeps every digit from being negative; the fold takes it out again.
-    whole = at_point(a) * at_point(b) + HALVES
-    digits = struct.unpack("<512Q", whole.to_bytes(8 * 2 * N, "little"))
-    return [low - high for low, high in zip(digits[:N], digits[N:])]
+    n = len(a)
+    whole = at_point(a) * at_point(b) + halves(n)
+    digits = struct.unpack(f"<{2 * n}Q", whole.to_bytes(8 * 2 * n, "little"))
+    return [low - high for low, high in zip(digits[:n], digits[n:])]
 
 
 def inner(u, v):
     """The inner product of two vectors."""
-    total = [0] * N
+    total = [0] * len(u[0])
     for a, b in zip(u, v):
         total = [x + y for x, y in zip(total, product(a, b))]
     return total
@@ -191,17 +197,15 @@ def bit_of(set, v, data):
 
 
 def made(set, matrix_seed, secret_seed):
-    """The stored matrix seed, the matrix, s, and the transposed product with s before its rounding."""
+    """The stored matrix seed, the matrix and s."""
     stored = SHAKE128(matrix_seed, 32)
-    A = matrix_of(set, stored)
-    s = secret_of(set, secret_seed)
-    return stored, A, s, times(transposed(A), s)
+    return stored, matrix_of(set, stored), secret_of(set, secret_seed)
 
 
 def key_pair(set, matrix_seed, secret_seed, z):
     """Making: the public key and the secret key."""
-    stored, _, s, As = made(set, matrix_seed, secret_seed)
-    b = [rounded(x) for x in As]
+    stored, A, s = made(set, matrix_seed, secret_seed)
+    b = [rounded(x) for x in times(transposed(A), s)]
     public_key = lay(flat(b), 10) + stored
     plain_secret = lay(modulo(flat(s), Q), 13)
     return public_key, plain_secret + public_key + SHA3_256(public_key) + z
@@ -257,15 +261,24 @@ def error(exact):
     return [[(8 * r - x + 3) % Q - 3 for r, x in zip(rounded(xs), xs)] for xs in exact]
 
 
+def errors(A, s, s1):
+    """e and e'."""
+    return error(times(transposed(A), s)), error(times(A, s1))
+
+
+def noise_of(A, s, s1):
+    """N, over whole numbers, of a matrix and both secrets."""
+    e, e1 = errors(A, s, s1)
+    return [x - y for x, y in zip(inner(e1, s), inner(e, s1))]
+
+
 def noise(set_number, matrix_seed, secret_seed, z, seed):
-    """N, over whole numbers, of making with the first three seeds and sealing with the fourth."""
+    """N of making with the first three seeds and sealing with the fourth."""
     set = parameters(set_number)
-    _, A, s, As = made(set, matrix_seed, secret_seed)
+    _, A, s = made(set, matrix_seed, secret_seed)
     public_key, _ = key_pair(set, matrix_seed, secret_seed, z)
     _, r = key_and_seed(SHA3_256(seed), SHA3_256(public_key))
-    s1 = secret_of(set, r)
-    e, e1 = error(As), error(times(A, s1))
-    return [x - y for x, y in zip(inner(e1, s), inner(e, s1))]
+    return noise_of(A, s, secret_of(set, r))
 
 
 # The calls

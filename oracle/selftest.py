@@ -168,6 +168,37 @@ def plain_inner(u, v):
     return [sum(column) for column in zip(*products)]
 
 
+def small_noise():
+    """The noise in figures, where n = 4 and l = 2. The theorem noise/Example has the same figures."""
+    A = [[[3168, 1, 3400, 2], [4095, 3144, 5, 6450]], [[7776, 2581, 8190, 0], [8191, 7627, 5593, 4096]]]
+    s, s1 = [[-5, 5, 3, 2], [0, 2, -4, -4]], [[-1, 2, -4, 5], [0, 0, -5, -2]]
+    exact = [[17032, 57341, -33437, -1719], [-14340, 40533, 13954, -66689]]
+    exact1 = [[16736, 21603, -23655, -1276], [55298, 3687, -66895, -9581]]
+    e, e1 = [[0, 3, -3, -1], [4, 3, -2, 1]], [[0, -3, -1, 4], [-2, 1, -1, -3]]
+    N = [24, -24, -16, 8]
+    check("small noise: transposed product", saber.times(saber.transposed(A), s) == exact)
+    check("small noise: product", saber.times(A, s1) == exact1)
+    check("small noise: e and e'", saber.errors(A, s, s1) == (e, e1))
+    check("small noise: N", saber.noise_of(A, s, s1) == N)
+    check("small noise: margin 3, not 2", [all(abs(x) <= 8 * M for x in N) for M in (3, 2)] == [True, False])
+
+    # By the plain product, and every coefficient is another one in each trap.
+    def N_of(e, e1, sign=-1):
+        return [x + sign * y for x, y in zip(plain_inner(e1, s), plain_inner(e, s1))]
+
+    down, down1 = ([[-(x % 8) for x in xs] for xs in vector] for vector in (exact, exact1))
+    check("small noise: transposed product, plain", [plain_inner(column, s) for column in zip(*A)] == exact)
+    check("small noise: product, plain", [plain_inner(row, s1) for row in A] == exact1)
+    check("small noise: N, plain", N_of(e, e1) == N)
+    for trap, other in (
+        ("the same side of the matrix", N_of(saber.error(saber.times(A, s)), e1)),
+        ("a sum", N_of(e, e1, 1)),
+        ("e and e' exchanged", N_of(e1, e)),
+        ("rounding without the 4", N_of(down, down1)),
+    ):
+        check(f"small noise: {trap}", all(x != y for x, y in zip(other, N)))
+
+
 def in_place(number):
     """The parts of keys and ciphertexts, read from their places, fit each other by the plain definitions."""
     set = saber.parameters(number)
@@ -350,7 +381,7 @@ def lines():
 
 
 def main():
-    for part in (cases, hashes, packing, ring, rounding, sampling, margin, refusals, lines):
+    for part in (cases, hashes, packing, ring, rounding, sampling, margin, small_noise, refusals, lines):
         part()
     for number in NUMBERS:
         in_place(number)
