@@ -18,7 +18,7 @@ from typing import Callable, NamedTuple
 
 import notation
 import saber
-from samples import draw, draw_list, vectors
+from samples import NIST_FILES, draw, draw_list, vectors
 
 NUMBERS = (0, 1, 2, 3)
 UNKNOWN_SETS = (4, 5, 4294967295)
@@ -215,8 +215,8 @@ def public_key_of_section():
     yield ask("public_key_of", 4, b"", stated=(None, [b""]))
 
 
-def nist(name, *files):
-    for file in files:
+def nist(name):
+    for file in NIST_FILES[name]:
         yield f"# {name}: NIST's {file}"
         for message, result in vectors(file):
             yield ask(name, message, lent_bytes(len(result)), stated=(0, [result]))
@@ -227,7 +227,7 @@ def around(rate):
 
 
 def shake128_section():
-    yield from nist("shake128", "SHAKE128ShortMsg.rsp", "SHAKE128VariableOut.rsp")
+    yield from nist("shake128")
     yield "# shake128: inputs and outputs around the rate"
     for length, size in itertools.product(around(168), around(168)):
         yield ask("shake128", draw(f"shake128 {length}", length), lent_bytes(size))
@@ -236,8 +236,8 @@ def shake128_section():
         yield ask("shake128", draw(f"shake128 {length}", length), lent_bytes(size))
 
 
-def digest_section(name, file, rate, size):
-    yield from nist(name, file)
+def digest_section(name, rate, size):
+    yield from nist(name)
     yield f"# {name}: inputs around the rate, and a long one"
     for length in (*around(rate), 5000):
         yield ask(name, draw(f"{name} {length}", length), lent_bytes(size))
@@ -249,11 +249,11 @@ def digest_section(name, file, rate, size):
 
 
 def sha3_256_section():
-    return digest_section("sha3_256", "SHA3_256ShortMsg.rsp", 136, 32)
+    return digest_section("sha3_256", 136, 32)
 
 
 def sha3_512_section():
-    return digest_section("sha3_512", "SHA3_512ShortMsg.rsp", 72, 64)
+    return digest_section("sha3_512", 72, 64)
 
 
 def poly_mul_section():

@@ -5,6 +5,11 @@ import struct
 from pathlib import Path
 
 NIST = Path(__file__).resolve().parent.parent / "vectors" / "nist"
+NIST_FILES = {  # of vectors, by the call that they are for
+    "shake128": ("SHAKE128ShortMsg.rsp", "SHAKE128VariableOut.rsp", "SHAKE128Msg1600.rsp"),
+    "sha3_256": ("SHA3_256ShortMsg.rsp", "SHA3_256Msg1600.rsp"),
+    "sha3_512": ("SHA3_512ShortMsg.rsp", "SHA3_512Msg1600.rsp"),
+}
 
 
 def draw(label, length):

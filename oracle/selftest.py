@@ -9,7 +9,7 @@ import sys
 
 import notation
 import saber
-from samples import draw, draw_list, vectors
+from samples import NIST_FILES, draw, draw_list, vectors
 
 NUMBERS = (0, 1, 2, 3)
 counts = {"checks": 0, "failed": 0}
@@ -91,12 +91,10 @@ def cases():
 
 
 def hashes():
-    for message, digest in vectors("SHA3_256ShortMsg.rsp"):
-        check(f"SHA3-256 of {len(message)} bytes", saber.sha3_256(message, bytes(32)) == (0, [digest]))
-    for message, digest in vectors("SHA3_512ShortMsg.rsp"):
-        check(f"SHA3-512 of {len(message)} bytes", saber.sha3_512(message, bytes(64)) == (0, [digest]))
-    for message, output in vectors("SHAKE128ShortMsg.rsp") + vectors("SHAKE128VariableOut.rsp"):
-        check(f"SHAKE-128 of {len(message)} bytes", saber.shake128(message, bytes(len(output))) == (0, [output]))
+    for name, files in NIST_FILES.items():
+        for message, result in itertools.chain(*map(vectors, files)):
+            answer = saber.CALLS[name].run(message, bytes(len(result)))
+            check(f"{name} of {len(message)} bytes", answer == (0, [result]))
     check("SHAKE-128 of no output", saber.shake128(b"any", b"") == (0, [b""]))
 
 
