@@ -10,6 +10,7 @@ vector, a refusal, an error) is stated beside its request, and the oracle's is c
 
 import argparse
 import functools
+import hashlib
 import itertools
 import sys
 from collections import Counter
@@ -18,7 +19,7 @@ from typing import Callable, NamedTuple
 
 import notation
 import saber
-from samples import NIST_FILES, draw, draw_list, vectors
+from samples import NIST_FILES, bits, counted_secret, draw, draw_list, vectors
 
 NUMBERS = (0, 1, 2, 3)
 UNKNOWN_SETS = (4, 5, 4294967295)
@@ -312,8 +313,19 @@ def gen_matrix_section():
     return gen_section("gen_matrix", lambda set: 256 * set.l * set.l)
 
 
+# Document 01's cases of sampling: the set, a seed without the zeros at its end, the bytes with which SHAKE-128 of it
+# starts, and the first coefficient
+SAMPLED = ((1, "d71d", "e003", 8187), (2, "3d", "f0", 8188), (2, "28", "0f", 4), (2, "019a", "31", 8191))
+
+
 def gen_secret_section():
-    return gen_section("gen_secret", lambda set: 256 * set.l)
+    yield "# gen_secret: the cases of document 01, from seeds whose SHAKE-128 output starts with the bytes of the case"
+    for number, start, string, coefficient in SAMPLED:
+        set, seed = saber.parameters(number), bytes.fromhex(start).ljust(32, b"\0")
+        secret = [x % 8192 for x in counted_secret(seed, set.l, set.mu)]
+        assert hashlib.shake_128(seed).hexdigest(len(string) // 2) == string and secret[0] == coefficient
+        yield ask("gen_secret", number, seed, lent_list(256 * set.l), stated=(0, [secret]))
+    yield from gen_section("gen_secret", lambda set: 256 * set.l)
 
 
 def recon_data_section():
@@ -617,7 +629,7 @@ def notation_section():
     yield "# notation: both cases of hex digits"
     string = draw("notation", 32)
     lower, mixed = string.hex(), "".join(x.upper() if i % 3 else x for i, x in enumerate(string.hex()))
-    stated = notation.write_answer(0, [[string[i // 8] >> i % 8 & 1 for i in range(256)]])
+    stated = notation.write_answer(0, [bits(string)])
     for digits in (lower, lower.upper(), mixed):
         yield Line(f"unpack 1 {digits} {'aBcD' * 256}".encode(), stated)
     yield Line(b"pack 5 ABCDEFabcdef A5B6c7D8", b"2 a5b6c7d8")

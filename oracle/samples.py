@@ -1,11 +1,12 @@
-"""Material for the tests: values that a label alone decides, and NIST's published vectors."""
+"""Material for the tests: values that a label alone decides, secrets counted bit by bit, and NIST's published vectors."""
 
 import hashlib
 import struct
 from pathlib import Path
 
 NIST = Path(__file__).resolve().parent.parent / "vectors" / "nist"
-NIST_FILES = {  # of vectors, by the call that they are for
+# The files of each hash
+NIST_FILES = {
     "shake128": ("SHAKE128ShortMsg.rsp", "SHAKE128VariableOut.rsp", "SHAKE128Msg1600.rsp"),
     "sha3_256": ("SHA3_256ShortMsg.rsp", "SHA3_256Msg1600.rsp"),
     "sha3_512": ("SHA3_512ShortMsg.rsp", "SHA3_512Msg1600.rsp"),
@@ -20,6 +21,17 @@ def draw(label, length):
 def draw_list(label, limit, length=256):
     """Coefficients below `limit`, a power of two, that the label decides."""
     return [x % limit for x in struct.unpack(f"<{length}H", draw(label, 2 * length))]
+
+
+def bits(string):
+    """The bits of a string in order, by the definition of a byte."""
+    return [string[i // 8] >> i % 8 & 1 for i in range(8 * len(string))]
+
+
+def counted_secret(seed, l, mu):
+    """The signed coefficients of a secret, counted in the stream of bits and not by the oracle's sampler."""
+    stream, half = bits(hashlib.shake_128(seed).digest(32 * l * mu)), mu // 2
+    return [sum(stream[i : i + half]) - sum(stream[i + half : i + mu]) for i in range(0, len(stream), mu)]
 
 
 def vectors(file):

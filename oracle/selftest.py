@@ -9,7 +9,7 @@ import sys
 
 import notation
 import saber
-from samples import NIST_FILES, draw, draw_list, vectors
+from samples import NIST_FILES, bits, counted_secret, draw, draw_list, vectors
 
 NUMBERS = (0, 1, 2, 3)
 counts = {"checks": 0, "failed": 0}
@@ -24,11 +24,6 @@ def check(label, holds):
 
 def monomial(place, coefficient=1):
     return [coefficient if i == place else 0 for i in range(256)]
-
-
-def bits(string):
-    """The bits of a string in order, by the definition of a byte."""
-    return [string[i // 8] >> i % 8 & 1 for i in range(8 * len(string))]
 
 
 def value(bits):
@@ -138,9 +133,7 @@ def sampling():
     for number in NUMBERS:
         set = saber.parameters(number)
         seed = draw(f"selftest sampling {number}", 32)
-        mu, half = set.mu, set.mu // 2
-        stream = bits(hashlib.shake_128(seed).digest(32 * set.l * mu))
-        signed = [sum(stream[i : i + half]) - sum(stream[i + half : i + mu]) for i in range(0, len(stream), mu)]
+        signed = counted_secret(seed, set.l, set.mu)
         residues = [x % 8192 for x in signed]
         check(f"set {number}: secret", saber.gen_secret(number, seed, [7] * 256 * set.l) == (0, [residues]))
         check(f"set {number}: signed secret", saber.flat(saber.secret_of(set, seed)) == signed)
