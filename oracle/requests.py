@@ -5,7 +5,8 @@
 
 `--to DIR` takes another root than the repository's.
 The answers are the oracle's. An answer that is known beforehand (a case of document 01, a published
-vector, a refusal, an error) is stated beside its request, and the oracle's is compared with it.
+vector, a known answer, a refusal, an error) is stated beside its request, and the oracle's is
+compared with it.
 """
 
 import argparse
@@ -17,9 +18,10 @@ from collections import Counter
 from pathlib import Path
 from typing import Callable, NamedTuple
 
+import known_answers
 import notation
 import saber
-from samples import NIST_FILES, bits, counted_secret, draw, draw_list, vectors
+from samples import NIST_FILES, bits, counted_secret, draw, draw_list, lent_bytes, lent_list, vectors
 
 NUMBERS = (0, 1, 2, 3)
 UNKNOWN_SETS = (4, 5, 4294967295)
@@ -39,15 +41,6 @@ class Line(NamedTuple):
 def ask(name, *arguments, stated=None):
     """A line that makes a call; `stated` is its number and its outputs."""
     return Line(notation.write_request(name, *arguments), stated and notation.write_answer(*stated))
-
-
-def lent_bytes(length):
-    """What an output holds when it is lent: never 0, and different from place to place."""
-    return bytes(0xA0 + i % 16 for i in range(length))
-
-
-def lent_list(length=256):
-    return [0xA000 + i for i in range(length)]
 
 
 def monomial(place, coefficient=1):
@@ -145,7 +138,7 @@ def unknown_sets(number):
     return UNKNOWN_SETS if number == 1 else ()
 
 
-# The sections, one for each call
+# The sections, one for each call and one for the known answers
 
 
 def pack_section():
@@ -497,6 +490,14 @@ def decrypt_section():
     yield from scheme_refusals("decrypt", sound)
 
 
+def known_answers_section():
+    for path in known_answers.FILES.values():
+        yield f"# known answers: keygen, encaps and decaps of each entry of {path.name}"
+        for label, entry in known_answers.read(path.read_text()):
+            for check in known_answers.checks(label, entry):
+                yield Line(check.request, check.expected)
+
+
 SECTIONS = {
     "pack": pack_section,
     "unpack": unpack_section,
@@ -515,6 +516,7 @@ SECTIONS = {
     "decrypt": decrypt_section,
     "encaps": encaps_section,
     "decaps": decaps_section,
+    "known answers": known_answers_section,
 }
 
 

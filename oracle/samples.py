@@ -1,4 +1,6 @@
-"""Material for the tests: values that a label alone decides, secrets counted bit by bit, and NIST's published vectors."""
+"""Material for the tests: values that a label alone decides, what outputs are lent with, secrets counted bit by bit,
+and NIST's published vectors.
+"""
 
 import hashlib
 import struct
@@ -21,6 +23,15 @@ def draw(label, length):
 def draw_list(label, limit, length=256):
     """Coefficients below `limit`, a power of two, that the label decides."""
     return [x % limit for x in struct.unpack(f"<{length}H", draw(label, 2 * length))]
+
+
+def lent_bytes(length):
+    """What an output holds when it is lent: never 0, and different from place to place."""
+    return bytes(0xA0 + i % 16 for i in range(length))
+
+
+def lent_list(length=256):
+    return [0xA000 + i for i in range(length)]
 
 
 def bits(string):

@@ -7,6 +7,7 @@ import hashlib
 import itertools
 import sys
 
+import drbg
 import notation
 import saber
 from samples import NIST_FILES, bits, counted_secret, draw, draw_list, vectors
@@ -91,6 +92,17 @@ def hashes():
             answer = saber.CALLS[name].run(message, bytes(len(result)))
             check(f"{name} of {len(message)} bytes", answer == (0, [result]))
     check("SHAKE-128 of no output", saber.shake128(b"any", b"") == (0, [b""]))
+
+
+def random_bytes():
+    """AES-256 against FIPS 197, appendix C.3; the generator against the first seeds of NIST's PQCkemKAT files."""
+    block = drbg.encrypt(drbg.round_keys(bytes(range(32))), bytes.fromhex("00112233445566778899aabbccddeeff"))
+    check("AES-256", block.hex() == "8ea2b7ca516745bfeafc49904b496089")
+    seeds = [
+        "061550234d158c5ec95595fe04ef7a25767f2e24cc2bc479d09d86dc9abcfde7056a8c266f9ef97ed08541dbd2e1ffa1",
+        "d81c4d8d734fcbfbeade3d3f8a039faa2a2c9957e835ad55b22e75bf57bb556ac81adde6aeeb4a5a875c3bfcadfa958f",
+    ]
+    check("known-answer seeds", [seed.hex() for seed in drbg.known_answer_seeds(2)] == seeds)
 
 
 def packing():
@@ -372,7 +384,7 @@ def lines():
 
 
 def main():
-    for part in (cases, hashes, packing, ring, rounding, sampling, margin, small_noise, refusals, lines):
+    for part in (cases, hashes, random_bytes, packing, ring, rounding, sampling, margin, small_noise, refusals, lines):
         part()
     for number in NUMBERS:
         in_place(number)

@@ -5,11 +5,12 @@
 
 import sys
 
-import drbg
 import kat
 import notation
 import readings
 import saber
+from drbg import known_answer_seeds
+from known_answers import FILES, checks, entry_of, write
 
 REJECTION = "the rejected secret is of k and z"
 
@@ -20,14 +21,14 @@ def damaged(string):
 
 def differences(entry):
     """Each call in which an entry differs from the oracle, with what that is laid to."""
-    found = [check for check in kat.checks("", entry) if notation.answer_line(check.request) != check.expected]
+    found = [check for check in checks("", entry) if notation.answer_line(check.request) != check.expected]
     return {check.label.strip(): kat.laid_to(check) for check in found}
 
 
 def reversed_entry(number, seed, name):
     """An entry made with one reading reversed."""
     with readings.reversed_in_oracle([name]):
-        entry = kat.entry_of(number, seed)
+        entry = entry_of(number, seed)
         if name == REJECTION:
             # An honest capsule is never rejected.
             ct = damaged(entry.ct)
@@ -36,13 +37,12 @@ def reversed_entry(number, seed, name):
 
 
 def main():
-    failed = drbg.self_check()
-    [seed] = drbg.known_answer_seeds(1)
-    for number in saber.SETS:
-        path = kat.ROOT / "vectors/kat" / kat.file_name(number)
-        if path.read_text() != kat.write(number):
+    failed = []
+    [seed] = known_answer_seeds(1)
+    for number, path in FILES.items():
+        if path.read_text() != write(number):
             failed.append(f"{path.name} is not what the oracle writes")
-        honest = kat.entry_of(number, seed)
+        honest = entry_of(number, seed)
         if differences(honest):
             failed.append(f"set {number}: the oracle's own entry differs")
         if differences(honest._replace(ss=damaged(honest.ss))) != {"encaps": [], "decaps": []}:
