@@ -1,11 +1,25 @@
 // Saber, a key encapsulation, in the three parameter sets of its submission.
 //
-// A slice is a pointer and then a count of elements: bytes, or coefficients of 16 bits, which start at an even address. No pointer is null,
-// also where its count is 0, and BUFFERS OF ONE CALL MUST NOT OVERLAP.
+// A slice is a pointer and then a count of elements: bytes, or coefficients of 16 bits, which start at an even address. Each call asks its
+// questions in the order of `enum saber_answer`. It answers 0 with every output written, or the first refusal with no output changed,
+// whatever the numbers, counts and contents. Calls keep nothing from one to the next and may run in several threads.
 //
-// Each call asks its questions in the order of `enum saber_answer`. It answers 0 with every output written, or the first refusal with no
-// output changed, whatever the numbers, counts and contents. Calls keep nothing from one to the next and may run in several threads.
-// Random bytes (seeds and z) come from the caller.
+// What no call can test, and the caller sees to:
+//
+// - NO POINTER IS NULL, also where its count is 0. In C++ mind `data()` of an empty vector.
+// - AN OUTPUT OVERLAPS NO OTHER BUFFER of its call, so no call works in place; what it would write then is not defined. Inputs may overlap.
+// - SEEDS, z among them, ARE FRESH, UNPREDICTABLE AND USED ONCE: 32 bytes that the system's generator (getrandom, getentropy) gives for
+//   this one call, kept secret and erased after it. The calls below say what goes wrong otherwise.
+// - SECRETS STAY ON THE STACK. No call clears what it leaves below its caller's frame, less than 32 KiB. To clear it, call right after it,
+//   from the same function, one that overwrites as much and is not inlined:
+//
+//       void clear_stack(void) {
+//           volatile uint8_t room[32768];
+//           for (size_t i = 0; i < sizeof room; i++)
+//               room[i] = 0;
+//       }
+//
+//   or run the calls on a stack of your own and erase that.
 #ifndef SABER_H
 #define SABER_H
 
@@ -18,7 +32,7 @@ extern "C" {
 
 enum saber_answer {
     SABER_OK = 0,
-    SABER_UNKNOWN_SET = 1,        // the set number is not 0 .. 3
+    SABER_UNKNOWN_SET = 1,        // the set number is not 0, 1, 2 or 3
     SABER_UNKNOWN_NUMBER = 2,     // the packing width is not 1, 3, 4, 6, 10 or 13, or the modulus not 1024 or 8192
     SABER_SEED_LENGTH = 3,        // a seed, z or a message is not 32 bytes
     SABER_PUBLIC_KEY_LENGTH = 4,  // the public key has not its set's length
@@ -60,14 +74,15 @@ enum {
 
 // Key encapsulation
 
-// Makes a key pair from two seeds and z, the bytes that take part in a rejected secret, 32 bytes each.
-// Refusals: 1, 3, 9.
+// Makes a key pair from two seeds and z, the bytes that take part in a rejected secret, 32 bytes each. Who guesses the secret seed has the
+// secret key. Who guesses z learns from the secrets of rejected ciphertexts how these decrypt, and so the secret key. A matrix seed used
+// twice lets work against one key serve against the other. Refusals: 1, 3, 9.
 uint8_t saber_keygen(uint32_t set, const uint8_t *matrix_seed, size_t matrix_seed_count, const uint8_t *secret_seed,
                      size_t secret_seed_count, const uint8_t *z, size_t z_count, uint8_t *public_key, size_t public_key_count,
                      uint8_t *secret_key, size_t secret_key_count);
 
-// Encapsulation: from a public key and a seed of 32 bytes, a ciphertext and the shared secret of 32 bytes.
-// Refusals: 1, 3, 4, 9.
+// Encapsulation: from a public key and a seed of 32 bytes, a ciphertext and the shared secret of 32 bytes. Who guesses the seed has the
+// shared secret, and a seed used twice with one key gives the same secret twice. Refusals: 1, 3, 4, 9.
 uint8_t saber_encaps(uint32_t set, const uint8_t *public_key, size_t public_key_count, const uint8_t *seed, size_t seed_count,
                      uint8_t *ciphertext, size_t ciphertext_count, uint8_t *shared_secret, size_t shared_secret_count);
 
@@ -89,9 +104,11 @@ static inline const uint8_t *saber_public_key_of(uint32_t set, const uint8_t *se
     return secret_key + saber_public_key_offset(set, secret_key_count);
 }
 
-// The encryption beneath
+// The encryption beneath. By itself it withstands no chosen ciphertexts: who has some of his own decrypted and sees the messages finds the
+// plain secret. Programs that exchange secrets use encapsulation.
 
-// Encrypts a message of 32 bytes with a secret seed of 32 bytes. Refusals: 1, 3, 4, 9.
+// Encrypts a message of 32 bytes with a secret seed of 32 bytes. Who guesses the seed reads the message, and a seed used twice with one key
+// shows in which bits two messages differ. Refusals: 1, 3, 4, 9.
 uint8_t saber_encrypt(uint32_t set, const uint8_t *public_key, size_t public_key_count, const uint8_t *message, size_t message_count,
                       const uint8_t *seed, size_t seed_count, uint8_t *ciphertext, size_t ciphertext_count);
 
@@ -107,7 +124,7 @@ uint8_t saber_gen_matrix(uint32_t set, const uint8_t *seed, size_t seed_count, u
 // The secret of a seed of 32 bytes: 256 x l coefficients, modulo 8192. Refusals: 1, 3, 9.
 uint8_t saber_gen_secret(uint32_t set, const uint8_t *seed, size_t seed_count, uint16_t *secret, size_t secret_count);
 
-// Polynomials of 256 coefficients
+// Polynomials of 256 coefficients. None of these works in place.
 
 // The product of two polynomials below the modulus, 1024 or 8192, where X to the 256 is -1. Refusals: 2, 7, 8, 9.
 uint8_t saber_poly_mul(uint32_t modulus, const uint16_t *a, size_t a_count, const uint16_t *b, size_t b_count, uint16_t *product,
@@ -129,7 +146,8 @@ uint8_t saber_pack(uint32_t width, const uint16_t *coefficients, size_t coeffici
 // Unpacks 32 x width bytes into coefficients of `width` bits. Refusals: 2, 7, 9.
 uint8_t saber_unpack(uint32_t width, const uint8_t *bytes, size_t bytes_count, uint16_t *coefficients, size_t coefficients_count);
 
-// Hashes of an input of any length
+// Hashes of an input of any length. None works in place: the hash of a hash goes to a second buffer. An empty input or output has count 0
+// and any pointer but NULL, as (const uint8_t *)"".
 
 // SHAKE-128 fills an output of any length, 0 included. No refusal.
 uint8_t saber_shake128(const uint8_t *input, size_t input_count, uint8_t *output, size_t output_count);

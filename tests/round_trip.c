@@ -1,5 +1,5 @@
-// A round trip of every set through the C interface, for valgrind too: each buffer is a block of its own with exactly the bytes needed,
-// and outputs are lent uninitialised.
+// A round trip of every set through the C interface, and hashes of nothing and to nothing, for valgrind too: each buffer is a block of its
+// own with exactly the bytes needed, and outputs are lent uninitialised.
 #include <saber.h>
 #include <stdio.h>
 #include <stdlib.h>
@@ -85,8 +85,25 @@ static void round_trip(const struct set *set) {
     printf("%u %s: round trip\n", (unsigned)set->number, set->name);
 }
 
+// SHA3-256 of no bytes, the first of NIST's vectors.
+static const uint8_t hash_of_nothing[32] = {0xa7, 0xff, 0xc6, 0xf8, 0xbf, 0x1e, 0xd7, 0x66, 0x51, 0xc1, 0x47, 0x56, 0xa0, 0x61, 0xd6, 0x62,
+                                            0xf5, 0x80, 0xff, 0x4d, 0xe4, 0x3b, 0x49, 0xfa, 0x82, 0xd8, 0x0a, 0x4b, 0x80, 0xf8, 0x43, 0x4a};
+
+static void empty_slices(void) {
+    const uint8_t *nothing = (const uint8_t *)"";
+    uint8_t *digest = block(sizeof hash_of_nothing);
+    CHECK(saber_sha3_256(nothing, 0, digest, sizeof hash_of_nothing) == SABER_OK);
+    CHECK(memcmp(digest, hash_of_nothing, sizeof hash_of_nothing) == 0);
+    CHECK(saber_shake128(nothing, 0, digest, 0) == SABER_OK);
+    CHECK(saber_sha3_256(nothing, 0, digest, 0) == SABER_OUTPUT_LENGTH);
+    CHECK(memcmp(digest, hash_of_nothing, sizeof hash_of_nothing) == 0);
+    free(digest);
+    printf("hashes of nothing and to nothing\n");
+}
+
 int main(void) {
     for (size_t i = 0; i < sizeof sets / sizeof *sets; i++)
         round_trip(&sets[i]);
+    empty_slices();
     return 0;
 }

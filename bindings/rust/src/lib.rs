@@ -1,7 +1,15 @@
 //! Saber, a key encapsulation, in the three parameter sets of its submission: safe calls of the proved library.
 //!
 //! Each call writes its outputs whole, or refuses and changes nothing. Outputs have exactly the length of their results, see [`Set`]. A set
-//! number is 1, 2 or 3, or 0 for the default, Saber. Random bytes (seeds and z) come from the caller.
+//! number is that of a [`Set`], or 0; 0 means the same as 2.
+//!
+//! What no call can test, and the caller sees to:
+//!
+//! - **Seeds, z among them, are fresh, unpredictable and used once**: 32 bytes that the system's generator gives for this one call, kept
+//!   secret and erased after it. The calls say what goes wrong otherwise.
+//! - **Secrets stay on the stack.** No call clears what it leaves below its caller's frame, less than 32 KiB. To clear it, call right after
+//!   it, from the same function, one that is `#[inline(never)]` and overwrites a local array of 32 KiB with `write_volatile`, or run the
+//!   calls on a stack of your own and erase that.
 #![no_std]
 
 use core::fmt;
@@ -46,11 +54,11 @@ pub enum Refusal {
 impl fmt::Display for Refusal {
     fn fmt(&self, f: &mut fmt::Formatter) -> fmt::Result {
         f.write_str(match self {
-            Refusal::UnknownSet => "the set number is not 0 to 3",
+            Refusal::UnknownSet => "the set number is not 0, 1, 2 or 3",
             Refusal::UnknownNumber => "the packing width is not 1, 3, 4, 6, 10 or 13, or the modulus not 1024 or 8192",
-            Refusal::SeedLength => "a seed or message is not 32 bytes",
+            Refusal::SeedLength => "a seed, z or a message is not 32 bytes",
             Refusal::PublicKeyLength => "the public key has not its set's length",
-            Refusal::SecretKeyLength => "the secret key has not its set's length",
+            Refusal::SecretKeyLength => "the secret key, or plain secret, has not its set's length",
             Refusal::CiphertextLength => "the ciphertext has not its set's length",
             Refusal::InputLength => "an input list is not 256 coefficients, or a string to unpack not 32 x width bytes",
             Refusal::CoefficientRange => "a coefficient is not below its modulus",
@@ -96,15 +104,20 @@ macro_rules! calls {
 }
 
 calls! {
-    /// Makes a key pair from two seeds and z, the bytes that take part in a rejected secret.
+    /// Makes a key pair from two seeds and z, the bytes that take part in a rejected secret. Who guesses the secret seed has the secret
+    /// key. Who guesses z learns from the secrets of rejected ciphertexts how these decrypt, and so the secret key. A matrix seed used
+    /// twice lets work against one key serve against the other.
     keygen = saber_keygen [set] (matrix_seed: u8, secret_seed: u8, z: u8) => (public_key: u8, secret_key: u8);
-    /// Encapsulation: a ciphertext, and the shared secret of 32 bytes.
+    /// Encapsulation: a ciphertext, and the shared secret of 32 bytes. Who guesses the seed has the shared secret, and a seed used twice
+    /// with one key gives the same secret twice.
     encaps = saber_encaps [set] (public_key: u8, seed: u8) => (ciphertext: u8, shared_secret: u8);
     /// Decapsulation: the shared secret. A ciphertext that was not made for this key is no refusal: it gives another secret, made with z.
     decaps = saber_decaps [set] (secret_key: u8, ciphertext: u8) => (shared_secret: u8);
-    /// Encrypts a message of 32 bytes with a secret seed of 32 bytes.
+    /// Encrypts a message of 32 bytes with a secret seed of 32 bytes. Who guesses the seed reads the message, and a seed used twice with
+    /// one key shows in which bits two messages differ.
     encrypt = saber_encrypt [set] (public_key: u8, message: u8, seed: u8) => (ciphertext: u8);
-    /// Decrypts to a message of 32 bytes with the plain secret.
+    /// Decrypts to a message of 32 bytes with the plain secret. By itself it withstands no chosen ciphertexts: who has some of his own
+    /// decrypted and sees the messages finds the plain secret. Programs that exchange secrets use [`decaps`].
     decrypt = saber_decrypt [set] (plain_secret: u8, ciphertext: u8) => (message: u8);
     /// The matrix of a seed: 256 x rank x rank coefficients below 8192, row by row.
     gen_matrix = saber_gen_matrix [set] (seed: u8) => (matrix: u16);

@@ -1,0 +1,110 @@
+// What the calls leave on the stack. Each runs on a stack of its own that was painted before: it must need less than the 32 KiB that
+// include/saber.h names, and what it leaves must be gone after the function that the header shows.
+#define _XOPEN_SOURCE 700
+#include <saber.h>
+#include <stdio.h>
+#include <stdlib.h>
+#include <string.h>
+#include <ucontext.h>
+
+enum { SET = SABER_SET_FIRESABER, ROOM = 32768, STACK = 4 * ROOM, PAINT = 0xa5 };
+enum { OWN = 64 }; // bytes at the top for the frames of this program itself
+
+static uint8_t seeds[4][32], public_key[FIRESABER_PUBLIC_KEY_BYTES], secret_key[FIRESABER_SECRET_KEY_BYTES];
+static uint8_t ciphertext[FIRESABER_CIPHERTEXT_BYTES], message[32], bytes[416], digest[64];
+static uint16_t matrix[16 * SABER_N], secret[4 * SABER_N], a[SABER_N], b[SABER_N], c[SABER_N];
+
+#define CALLS(DO)                                                                                                             \
+    DO(keygen, SET, seeds[0], 32, seeds[1], 32, seeds[2], 32, public_key, sizeof public_key, secret_key, sizeof secret_key)   \
+    DO(encaps, SET, public_key, sizeof public_key, seeds[3], 32, ciphertext, sizeof ciphertext, message, 32)                  \
+    DO(decaps, SET, secret_key, sizeof secret_key, ciphertext, sizeof ciphertext, message, 32)                                \
+    DO(encrypt, SET, public_key, sizeof public_key, message, 32, seeds[3], 32, ciphertext, sizeof ciphertext)                 \
+    DO(decrypt, SET, secret_key, FIRESABER_PLAIN_SECRET_BYTES, ciphertext, sizeof ciphertext, message, 32)                    \
+    DO(gen_matrix, SET, seeds[0], 32, matrix, 16 * SABER_N)                                                                   \
+    DO(gen_secret, SET, seeds[1], 32, secret, 4 * SABER_N)                                                                    \
+    DO(poly_mul, 8192, matrix, SABER_N, secret, SABER_N, a, SABER_N)                                                          \
+    DO(round, a, SABER_N, b, SABER_N)                                                                                         \
+    DO(recon_data, SET, b, SABER_N, c, SABER_N)                                                                               \
+    DO(recover, SET, b, SABER_N, c, SABER_N, a, SABER_N)                                                                      \
+    DO(pack, 13, secret, SABER_N, bytes, sizeof bytes)                                                                        \
+    DO(unpack, 13, bytes, sizeof bytes, a, SABER_N)                                                                           \
+    DO(shake128, secret_key, sizeof secret_key, bytes, sizeof bytes)                                                          \
+    DO(sha3_256, secret_key, sizeof secret_key, digest, 32)                                                                   \
+    DO(sha3_512, secret_key, sizeof secret_key, digest, 64)
+
+#define DEFINE(name, ...) \
+    static uint8_t call_##name(void) { return saber_##name(__VA_ARGS__); }
+#define ENTRY(name, ...) {#name, call_##name},
+CALLS(DEFINE)
+static const struct {
+    const char *name;
+    uint8_t (*call)(void);
+} calls[] = {CALLS(ENTRY)};
+
+static void nothing(void) {}
+
+static void clear_stack(void) {
+    volatile uint8_t room[ROOM];
+    for (size_t i = 0; i < sizeof room; i++)
+        room[i] = 0;
+}
+
+static uint8_t stack[STACK];
+static ucontext_t here, there;
+static uint8_t (*volatile the_call)(void);
+static void (*volatile afterwards)(void); // volatile, so that neither is inlined
+
+static void on_stack(void) {
+    if (the_call() != SABER_OK) {
+        fprintf(stderr, "a call refused\n");
+        exit(1);
+    }
+    afterwards();
+}
+
+static void run(uint8_t (*call)(void), void (*then)(void)) {
+    memset(stack, PAINT, STACK);
+    the_call = call;
+    afterwards = then;
+    getcontext(&there);
+    there.uc_stack.ss_sp = stack;
+    there.uc_stack.ss_size = STACK;
+    there.uc_link = &here;
+    makecontext(&there, on_stack, 0);
+    swapcontext(&here, &there);
+}
+
+// The bytes from the lowest one that a call changed to the top.
+static size_t depth(void) {
+    size_t low = 0;
+    while (low < STACK && stack[low] == PAINT)
+        low++;
+    return STACK - low;
+}
+
+int main(void) {
+    static uint8_t left[STACK];
+    size_t deepest = 0;
+    const char *name = "";
+    for (size_t i = 0; i < sizeof calls / sizeof *calls; i++) {
+        run(calls[i].call, nothing);
+        memcpy(left, stack, STACK);
+        if (depth() > deepest) {
+            deepest = depth();
+            name = calls[i].name;
+        }
+        run(calls[i].call, clear_stack);
+        for (size_t k = 0; k < STACK - OWN; k++)
+            if (left[k] != PAINT && left[k] != 0 && stack[k] == left[k]) {
+                fprintf(stderr, "%s: a byte stays on the stack, %zu below the top\n", calls[i].name, STACK - k);
+                return 1;
+            }
+    }
+    printf("stack: %zu bytes at most (%s); none that %zu calls left is there once it is cleared\n", deepest, name,
+           sizeof calls / sizeof *calls);
+    if (deepest >= ROOM) {
+        fprintf(stderr, "that is not less than %d\n", ROOM);
+        return 1;
+    }
+    return 0;
+}
