@@ -1,0 +1,351 @@
+"""The C header and the Rust package against the exported functions and the oracle, by their texts alone.
+
+    python3 tests/interface.py
+
+Constants are held to the oracle's table, functions and their parameters to crates/saber/src/lib.rt, and those to the
+oracle's calls. Nothing may lack and nothing may be there besides. Then each text is changed in one number, type or
+`const`, in the order of two parameters or by a declaration, and every change has to be found. It exits with 1 on a
+difference.
+
+What is compared are dictionaries. A function has an entry for its result and one for each parameter as C passes it, in
+Rust's words: a slice is a pointer, as `*const u8` or `*mut u16`, and a count.
+"""
+
+import functools
+import itertools
+import re
+import sys
+from pathlib import Path
+
+ROOT = Path(__file__).resolve().parent.parent
+sys.path.append(str(ROOT / "oracle"))
+
+import saber
+
+LIBRARY, HEADER, PACKAGE = "crates/saber/src/lib.rt", "include/saber.h", "bindings/rust/src/lib.rs"
+NAMES = {1: "LIGHTSABER", 2: "SABER", 3: "FIRESABER"}
+SIZES = ("public_key", "secret_key", "plain_secret", "ciphertext")  # of a set, in bytes
+KINDS = {"number": "u32", "bytes": "&[u8]", "list": "&[u16]"}  # of the oracle's inputs
+
+
+class Unreadable(Exception):
+    """A form that is not known here; its text is where."""
+
+
+def code(text):
+    """A text without its comments and strings, all but "C"."""
+    return re.sub(r'"[^"]*"', lambda string: string[0] if string[0] == '"C"' else '""', re.sub(r"//.*", "", text))
+
+
+def items(text):
+    """What stands between commas."""
+    return [" ".join(item.split()) for item in text.split(",") if item.strip()]
+
+
+def pairs(text, mark):
+    """`a: b, c: d`, or with another mark."""
+    found = [item.partition(mark) for item in items(text)]
+    if not all(part for item in found for part in item):
+        raise Unreadable(text.strip())
+    return [(first, second) for first, _, second in found]
+
+
+def entries(name, parameters, result):
+    """Those of a function."""
+    return {f"result of {name}": result} | {f"parameter {i} of {name}": p for i, p in enumerate(parameters, 1)}
+
+
+# What the oracle says
+
+
+def answer(name, *arguments):
+    return saber.CALLS[name].run(*arguments)[0]
+
+
+def refusals():
+    """The number of each refusal: the oracle's answers to calls that pass the questions before it."""
+    secret_key = bytes(saber.SETS[2].secret_key)
+    return {
+        "unknown_set": answer("encaps", 4, b"", b"", b"", b""),
+        "seed_length": answer("encaps", 2, b"", b"", b"", b""),
+        "public_key_length": answer("encaps", 2, b"", bytes(32), b"", b""),
+        "secret_key_length": answer("decaps", 2, b"", b"", b""),
+        "ciphertext_length": answer("decaps", 2, secret_key, b"", b""),
+        "unknown_number": answer("pack", 2, [], b""),
+        "input_length": answer("pack", 1, [], b""),
+        "coefficient_range": answer("pack", 1, [2] * saber.N, b""),
+        "output_length": answer("pack", 1, [1] * saber.N, b""),
+    }
+
+
+def lengths():
+    """Bytes of a seed, the count that encapsulation takes, of a message and of a shared secret."""
+    set, refused = saber.SETS[2], refusals()["seed_length"]
+    ciphertext = bytes(set.ciphertext)
+    return {
+        "seed": next(n for n in itertools.count() if answer("encaps", 2, b"", bytes(n), b"", b"") != refused),
+        "message": len(saber.decrypted(set, bytes(set.plain_secret), ciphertext)),
+        "shared_secret": len(saber.unsealed(set, bytes(set.secret_key), ciphertext)),
+    }
+
+
+@functools.cache
+def header_constants():
+    found = {"SABER_OK": 0, "SABER_SET_DEFAULT": 0, "SABER_N": saber.N}
+    found |= {f"SABER_{name.upper()}": number for name, number in refusals().items()}
+    found |= {f"SABER_{name.upper()}_BYTES": length for name, length in lengths().items()}
+    for number, set in saber.SETS.items():
+        found |= {f"SABER_SET_{NAMES[number]}": number, f"{NAMES[number]}_RANK": set.l}
+        found |= {f"{NAMES[number]}_{size.upper()}_BYTES": getattr(set, size) for size in SIZES}
+    return found
+
+
+@functools.cache
+def package_constants():
+    [seed] = {*lengths().values()}  # one constant for all three
+    found = {"SEED": seed, "N": saber.N, "answer 0": "return Ok(())"}
+    for name, number in refusals().items():
+        refusal = f"Refusal::{name.title().replace('_', '')}"
+        found |= {refusal: number, f"answer {number}": refusal}
+    for number, set in saber.SETS.items():
+        fields = {"number": number, "rank": set.l, **{size: getattr(set, size) for size in SIZES}}
+        found |= {f"{NAMES[number]}.{field}": value for field, value in fields.items()}
+    return found
+
+
+def sentences():
+    """Sentences with the oracle's numbers that header and package have."""
+
+    def listed(numbers):
+        *first, last = map(str, numbers)
+        return f"{', '.join(first)} or {last}"
+
+    return [
+        f"the set number is not {listed([0, *saber.SETS])}",
+        f"the packing width is not {listed(saber.WIDTHS)}, or the modulus not {listed(saber.MODULI)}",
+        f"0 means the same as {saber.DEFAULT}",
+    ]
+
+
+def oracle_entries():
+    """The oracle's calls as exported functions, with types for parameters. The lookup is exported as two numbers that
+    depend on the count of its secret key alone."""
+    found = {}
+    for name, call in saber.CALLS.items():
+        inputs = [KINDS[kind] for kind in call.inputs]
+        if name == "public_key_of":
+            for export in ("saber_public_key_offset", "saber_public_key_length"):
+                found |= entries(export, [inputs[0], "usize"], "usize")
+        else:
+            outputs = ["&mut " + KINDS[kind].removeprefix("&") for kind in call.outputs]
+            found |= entries(f"saber_{name}", inputs + outputs, "u8")
+    return found
+
+
+# What the library exports
+
+EXPORT = r'#\[no_mangle\]\s*pub extern "C" fn (\w+)\(([^)]*)\)\s*->\s*(\w+)'
+
+
+def exported(text):
+    """Names with parameters, each its name and type, and result."""
+    found = {name: (pairs(parameters, ": "), result) for name, parameters, result in re.findall(EXPORT, text)}
+    if not len(found) == text.count("no_mangle") == text.count('extern "C"'):
+        raise Unreadable("an exported function")
+    return found
+
+
+def passed(parameters):
+    """How C passes parameters. A count has the name of its slice and `_count`, also where it stands alone."""
+    found = []
+    for name, type in parameters:
+        reference = re.fullmatch(r"&(mut )?(\[?)(\w+)\]?", type)
+        if reference:
+            found.append(f"{name}: *{'mut' if reference[1] else 'const'} {reference[3]}")
+        if type == "usize" or reference and reference[2]:
+            found.append(f"{name}_count: usize")
+        elif not reference:
+            found.append(f"{name}: {type}")
+    return found
+
+
+def passed_entries(functions):
+    found = {}
+    for name, (parameters, result) in functions.items():
+        found |= entries(name, passed(parameters), result)
+    return found
+
+
+# The header
+
+DECLARATION = re.compile(
+    r" ?(?:enum \w* ?\{(?P<constants>[^}]*)\};"
+    r"|(?:static inline )?(?P<result>(?:const )?\w+ \*?)(?P<name>\w+)\((?P<parameters>[^)]*)\)(?:;| \{[^}]*\})) ?"
+)
+
+
+def from_c(text):
+    """A parameter, or a type alone, in Rust's words."""
+    match = re.fullmatch(r"(const )?(\w+) (\*?)(\w*)", text)
+    if not match:
+        raise Unreadable(text)
+    const, type, star, name = match.groups()
+    type = re.sub(r"(u?)int(\d+)_t", lambda m: (m[1] or "i") + m[2], type).replace("size_t", "usize")
+    pointer = f"*{'const' if const else 'mut'} " if star else const or ""
+    return (f"{name}: " if name else "") + pointer + type
+
+
+def header_entries(text):
+    text = re.sub(r"#ifdef __cplusplus.*?#endif", "", text, flags=re.DOTALL)
+    text = " ".join(re.sub(r"^#.*", "", text, flags=re.MULTILINE).split())
+    found, at = {}, 0
+    while at < len(text):
+        match = DECLARATION.match(text, at)
+        if not match:
+            raise Unreadable(text[at : at + 80])
+        at = match.end()
+        if match["name"]:
+            found |= entries(match["name"], map(from_c, items(match["parameters"])), from_c(match["result"]))
+        else:
+            found |= {name: int(number) for name, number in pairs(match["constants"], " = ")}
+    return found
+
+
+def expected_of_header(functions):
+    """The lookup is an inline function besides, which stores the count of what it returns."""
+    lookup = [*passed([("set", "u32"), ("secret_key", "&[u8]")]), "public_key_count: *mut usize"]
+    return header_constants() | passed_entries(functions) | entries("saber_public_key_of", lookup, "*const u8")
+
+
+# The package
+
+# What its macro makes of a row, which names a number, inputs and outputs: the declaration, the safe function, the call.
+MACRO = (
+    "$(fn $export($($number: u32,)? $($input: *const $from, _: usize,)+ $($output: *mut $to, _: usize),+) -> u8;)+",
+    "pub fn $name($($number: u32,)? $($input: &[$from],)+ $($output: &mut [$to]),+) -> Result<(), Refusal> {",
+    "$export($($number,)? $($input.as_ptr(), $input.len(),)+ $($output.as_mut_ptr(), $output.len()),+)",
+)
+ROW = r"(\w+) = (\w+) \[(\w*)\] \(([^)]*)\) => \(([^)]*)\);"
+DECLARED = r"    fn (saber_\w+)\(([^)]*)\) -> (\w+);"
+SAFE = r"\npub fn (\w+)\(([^)]*)\) -> (.*) \{"
+NUMBER = r"pub const (\w+): usize = (\d+);"
+SET = r"pub const (\w+): Set = Set \{([^}]*)\};"
+REFUSAL = r"pub enum Refusal \{([^}]*)\}"
+ANSWER = r"(\d+) => ([^,]*),"
+APART = {"public_key_of": (["set: u32", "secret_key: &[u8]"], "&[u8]")}  # safe functions that are no rows
+
+
+def package_entries(text):
+    found = {f"macro, line {i}": line if line in text else "another" for i, line in enumerate(MACRO, 1)}
+    found |= {name: int(number) for name, number in re.findall(NUMBER, text)}
+    for name, fields in re.findall(SET, text):
+        found |= {f"{name}.{field}": int(number) for field, number in pairs(fields, ": ")}
+    for numbers in re.findall(REFUSAL, text):
+        found |= {f"Refusal::{name}": int(number) for name, number in pairs(numbers, " = ")}
+    found |= {f"answer {number}": result for number, result in re.findall(ANSWER, text)}
+    for name, export, number, inputs, outputs in re.findall(ROW, text):
+        parameters = [(number, "u32")] if number else []
+        parameters += [(input, f"&[{type}]") for input, type in pairs(inputs, ": ")]
+        parameters += [(output, f"&mut [{type}]") for output, type in pairs(outputs, ": ")]
+        found |= {f"what {name} calls": export} | entries(export, passed(parameters), "u8")
+    for name, parameters, result in re.findall(DECLARED, text) + re.findall(SAFE, text):
+        found |= entries(name, items(parameters), result)
+    for name in re.findall(r"\bsaber_\w+", text):
+        found.setdefault(f"result of {name}", "not declared")
+    return found
+
+
+def expected_of_package(functions):
+    found = {f"macro, line {i}": line for i, line in enumerate(MACRO, 1)}
+    found |= {f"what {name} calls": f"saber_{name}" for name in saber.CALLS if name not in APART}
+    for name, (parameters, result) in APART.items():
+        found |= entries(name, parameters, result)
+    return found | package_constants() | passed_entries(functions)
+
+
+# The comparison
+
+
+def read(place, reader, codes):
+    try:
+        return reader(codes[place])
+    except (Unreadable, ValueError) as reason:
+        raise Unreadable(f"{place}: cannot be read: {reason}") from None
+
+
+def compared(place, found, expected):
+    return [
+        f"{place}: {key}: {found.get(key, 'not there')}, expected {expected.get(key, 'none')}"
+        for key in found | expected
+        if found.get(key) != expected.get(key)
+    ]
+
+
+def differences(codes):
+    """A line each."""
+    try:
+        functions, types = read(LIBRARY, exported, codes), {}
+        for name, (parameters, result) in functions.items():
+            types |= entries(name, [type for _, type in parameters], result)
+        return [
+            *compared(LIBRARY, types, oracle_entries()),
+            *compared(HEADER, read(HEADER, header_entries, codes), expected_of_header(functions)),
+            *compared(PACKAGE, read(PACKAGE, package_entries, codes), expected_of_package(functions)),
+        ]
+    except Unreadable as reason:
+        return [str(reason)]
+
+
+# Changes that have to be found
+
+# Where: the declarations that are compared. What: one of them, the order of two parameters, a token.
+PARTS = {
+    LIBRARY: EXPORT,
+    HEADER: r"enum[^}]*\};|[\w ]+ \*?\w+\([^)]*\)(?:;|(?= \{))",
+    PACKAGE: "|".join([*map(re.escape, MACRO), ROW, DECLARED, SAFE, NUMBER, SET, REFUSAL, ANSWER]),
+}
+TOKEN = re.compile(r"\b(?:\d+|u?int\d+_t|[ui]\d+|size_t|usize)\b|\*(?:const|mut) |\bconst |&mut |&\[")
+OTHER = {"size_t": "uint32_t", "usize": "u32", "const ": "", "*const ": "*mut ", "*mut ": "*const "}
+OTHER |= {"&mut ": "&", "&[": "&mut ["}
+
+
+def other(token):
+    """Another token of its kind: of a number, or a type with a number in it, the one with the next number."""
+    return OTHER[token] if token in OTHER else re.sub(r"\d+", lambda number: str(int(number[0]) + 1), token)
+
+
+def changes(place, text):
+    """The text with one thing changed, every way."""
+    for part in re.finditer(PARTS[place], text):
+        start, end = part.span()
+        yield text[:start] + text[end:]
+        for token in TOKEN.finditer(text, start, end):
+            yield text[: token.start()] + other(token[0]) + text[token.end() :]
+        for group in re.compile(r"\(([^()]*)\)").finditer(text, start, end):
+            listed = items(group[1])
+            for i in range(1, len(listed)):
+                exchanged = ", ".join([*listed[: i - 1], listed[i], listed[i - 1], *listed[i + 1 :]])
+                yield text[: group.start(1)] + exchanged + text[group.end(1) :]
+
+
+def main():
+    texts = {place: (ROOT / place).read_text() for place in (LIBRARY, HEADER, PACKAGE)}
+    codes = {place: code(text) for place, text in texts.items()}
+    found = differences(codes)
+    for place in (HEADER, PACKAGE):
+        found += [f"{place}: lacks `{line}`" for line in sentences() if line not in texts[place]]
+    if found:
+        sys.exit("\n".join(found))
+    tried = 0
+    for place, text in codes.items():
+        for changed in changes(place, text):
+            tried += 1
+            if not differences(codes | {place: changed}):
+                line = next(new for new, old in zip(changed.splitlines(), text.splitlines()) if new != old)
+                sys.exit(f"{place}: a change is not found: {line}")
+    functions, constants = exported(codes[LIBRARY]), [*header_constants(), *package_constants()]
+    print(f"interface: {len(functions)} functions and {len(constants)} constants agree, {tried} changes are found")
+
+
+if __name__ == "__main__":
+    main()
