@@ -1,0 +1,75 @@
+"""The plain implementation in C (oracle/plain.c) against the known-answer files of vectors/kat.
+
+    python3 tests/plain.py
+
+It has to give keys, ciphertext and shared secret of every entry, and the oracle's rejected secret where one bit of the
+ciphertext is turned: the first bit in a file's first entry, on to the lowest of the last coefficient in its last. It
+exits with 1 on a difference.
+"""
+
+import ctypes
+import subprocess
+import sys
+import tempfile
+from pathlib import Path
+
+ROOT = Path(__file__).resolve().parent.parent
+sys.path.append(str(ROOT / "oracle"))
+
+import saber
+from kat import drawn, read
+
+NUMBERS = {set.public_key: number for number, set in saber.SETS.items()}
+
+
+def built(folder):
+    """The implementation as a shared object."""
+    shared = Path(folder) / "libplain.so"
+    flags = "-std=c99 -O2 -Wall -Wextra -pedantic -Werror -shared -fPIC".split()
+    subprocess.run(["cc", *flags, "-o", shared, ROOT / "oracle/plain.c"], check=True)
+    return ctypes.CDLL(str(shared))
+
+
+def with_bit_turned(string, bit):
+    return (int.from_bytes(string, "little") ^ 1 << bit).to_bytes(len(string), "little")
+
+
+def differences(library, entry, part):
+    """The calls of an entry that differ. The part, 0 to 1, is where a bit of the ciphertext is turned."""
+    number = NUMBERS[len(entry.pk)]
+    set = saber.SETS[number]
+    *seeds, sealing_seed = drawn(entry.seed)
+    damaged = with_bit_turned(entry.ct, round(part * (8 * set.ciphertext - set.data_width)))
+    rejected = saber.unsealed(set, entry.sk, damaged)
+
+    def differs(function, inputs, expected):
+        outputs = [ctypes.create_string_buffer(len(string)) for string in expected]
+        function(ctypes.c_int(number), *inputs, *outputs)
+        return [output.raw for output in outputs] != expected
+
+    calls = {
+        "keygen": (library.plain_keygen, seeds, [entry.pk, entry.sk]),
+        "encaps": (library.plain_encaps, [entry.pk, sealing_seed], [entry.ct, entry.ss]),
+        "decaps": (library.plain_decaps, [entry.sk, entry.ct], [entry.ss]),
+        "decaps of a damaged ciphertext": (library.plain_decaps, [entry.sk, damaged], [rejected]),
+    }
+    return [name for name, call in calls.items() if differs(*call)]
+
+
+def main():
+    total, failed = 0, 0
+    with tempfile.TemporaryDirectory() as folder:
+        library = built(folder)
+        for path in sorted((ROOT / "vectors/kat").glob("*.rsp")):
+            entries = read(path.read_text())
+            for i, (label, entry) in enumerate(entries):
+                for name in differences(library, entry, i / (len(entries) - 1)):
+                    print(f"{path.name}: {label}: {name} differs")
+                    failed += 1
+            total += len(entries)
+    print(f"plain implementation: {total} known-answer entries, {4 * total} calls, {failed} differences")
+    sys.exit(failed > 0 or total == 0)
+
+
+if __name__ == "__main__":
+    main()
