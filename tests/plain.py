@@ -17,9 +17,7 @@ ROOT = Path(__file__).resolve().parent.parent
 sys.path.append(str(ROOT / "oracle"))
 
 import saber
-from kat import drawn, read
-
-NUMBERS = {set.public_key: number for number, set in saber.SETS.items()}
+from known_answers import FILES, SET_OF, drawn, read
 
 
 def built(folder):
@@ -36,7 +34,7 @@ def with_bit_turned(string, bit):
 
 def differences(library, entry, part):
     """The calls of an entry that differ. The part, 0 to 1, is where a bit of the ciphertext is turned."""
-    number = NUMBERS[len(entry.pk)]
+    number = SET_OF[len(entry.pk)]
     set = saber.SETS[number]
     *seeds, sealing_seed = drawn(entry.seed)
     damaged = with_bit_turned(entry.ct, round(part * (8 * set.ciphertext - set.data_width)))
@@ -60,7 +58,7 @@ def main():
     total, failed = 0, 0
     with tempfile.TemporaryDirectory() as folder:
         library = built(folder)
-        for path in sorted((ROOT / "vectors/kat").glob("*.rsp")):
+        for path in FILES.values():
             entries = read(path.read_text())
             for i, (label, entry) in enumerate(entries):
                 for name in differences(library, entry, i / (len(entries) - 1)):
