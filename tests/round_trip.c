@@ -1,5 +1,6 @@
 // A round trip of every set through the C interface, and hashes of nothing and to nothing, for valgrind too: each buffer is a block of its
 // own with exactly the bytes needed, and outputs are lent uninitialised.
+#include "check.h"
 #include <saber.h>
 #include <stdio.h>
 #include <stdlib.h>
@@ -19,14 +20,6 @@ static const struct set sets[] = {
     {SABER_SET_SABER, "Saber", SIZES(SABER)},
     {SABER_SET_FIRESABER, "FireSaber", SIZES(FIRESABER)},
 };
-
-#define CHECK(condition)                                                     \
-    do {                                                                     \
-        if (!(condition)) {                                                  \
-            fprintf(stderr, "line %d: not so: %s\n", __LINE__, #condition); \
-            exit(1);                                                         \
-        }                                                                    \
-    } while (0)
 
 static uint8_t *block(size_t count) {
     uint8_t *bytes = (uint8_t *)malloc(count);

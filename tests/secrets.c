@@ -4,6 +4,7 @@
 // Seeds, messages, hash inputs and coefficients are marked; keys and ciphertexts are what the calls make of them, the public ones too.
 // Outputs are lent defined, so what is undefined afterwards came from a mark: each of their elements has to be, and no answer may be but
 // where Q8 asks about content. Prints each call with the number of reports that it gave.
+#include "check.h"
 #include <saber.h>
 #include <stdio.h>
 #include <stdlib.h>
@@ -16,14 +17,6 @@ static const struct {
     size_t l, public_key, secret_key, plain_secret, ciphertext;
     uint16_t data; // the bound of reconciliation data
 } sizes[] = {{SIZES(SABER), 16}, {SIZES(LIGHTSABER), 8}, {SIZES(SABER), 16}, {SIZES(FIRESABER), 64}};
-
-#define CHECK(condition)                                                    \
-    do {                                                                    \
-        if (!(condition)) {                                                 \
-            fprintf(stderr, "line %d: not so: %s\n", __LINE__, #condition); \
-            exit(1);                                                        \
-        }                                                                   \
-    } while (0)
 
 // How many of `count` elements hold an undefined bit.
 static size_t undefined(const void *elements, size_t count, size_t size) {

@@ -1,13 +1,12 @@
 // What the calls leave on the stack. Each runs on a stack of its own that was painted before: it must need less than the 32 KiB that
 // include/saber.h names, and what it leaves must be gone after the function that the header shows.
 #define _XOPEN_SOURCE 700
+#include "own_stack.h"
 #include <saber.h>
 #include <stdio.h>
 #include <stdlib.h>
-#include <string.h>
-#include <ucontext.h>
 
-enum { SET = SABER_SET_FIRESABER, ROOM = 32768, STACK = 4 * ROOM, PAINT = 0xa5 };
+enum { SET = SABER_SET_FIRESABER, ROOM = 32768 };
 enum { OWN = 64 }; // bytes at the top for the frames of this program itself
 
 static uint8_t seeds[4][32], public_key[FIRESABER_PUBLIC_KEY_BYTES], secret_key[FIRESABER_SECRET_KEY_BYTES];
@@ -49,8 +48,6 @@ static void clear_stack(void) {
         room[i] = 0;
 }
 
-static uint8_t stack[STACK];
-static ucontext_t here, there;
 static uint8_t (*volatile the_call)(void);
 static void (*volatile afterwards)(void); // volatile, so that neither is inlined
 
@@ -63,23 +60,9 @@ static void on_stack(void) {
 }
 
 static void run(uint8_t (*call)(void), void (*then)(void)) {
-    memset(stack, PAINT, STACK);
     the_call = call;
     afterwards = then;
-    getcontext(&there);
-    there.uc_stack.ss_sp = stack;
-    there.uc_stack.ss_size = STACK;
-    there.uc_link = &here;
-    makecontext(&there, on_stack, 0);
-    swapcontext(&here, &there);
-}
-
-// The bytes from the lowest one that a call changed to the top.
-static size_t depth(void) {
-    size_t low = 0;
-    while (low < STACK && stack[low] == PAINT)
-        low++;
-    return STACK - low;
+    run_on_stack(on_stack);
 }
 
 int main(void) {

@@ -9,13 +9,13 @@
 #include <stdlib.h>
 #include <string.h>
 #include <time.h>
-#include <ucontext.h>
 #include <x86intrin.h>
 
+#include "own_stack.h"
 #include "plain.h"
 #include "saber.h"
 
-enum { WARM = 50, RUNS = 1001, STACK = 1 << 18, PAINT = 0xa5 };
+enum { WARM = 50, RUNS = 1001 };
 
 enum { KEYGEN, ENCAPS, DECAPS, CALLS };
 static const char *const names[CALLS] = {"keygen", "encaps", "decaps"};
@@ -114,7 +114,6 @@ static void time_calls(void) {
     printf("megahertz %.0f\n", 1e3 * (double)(__rdtsc() - cycles) / (double)(nanoseconds() - time));
 }
 
-static ucontext_t here, there;
 static int the_set, the_call;
 
 static void on_stack(void) {
@@ -123,27 +122,17 @@ static void on_stack(void) {
 }
 
 // The bytes of a painted stack that a call leaves changed.
-static size_t depth(int set, int call) {
-    static uint8_t stack[STACK];
-    memset(stack, PAINT, STACK);
+static size_t depth_of(int set, int call) {
     the_set = set;
     the_call = call;
-    getcontext(&there);
-    there.uc_stack.ss_sp = stack;
-    there.uc_stack.ss_size = STACK;
-    there.uc_link = &here;
-    makecontext(&there, on_stack, 0);
-    swapcontext(&here, &there);
-    size_t low = 0;
-    while (low < STACK && stack[low] == PAINT)
-        low++;
-    return STACK - low;
+    run_on_stack(on_stack);
+    return depth();
 }
 
 static void print_stacks(void) {
     for (int set = 1; set <= 3; set++)
         for (int call = 0; call < CALLS; call++)
-            printf("stack %d %s %zu\n", set, names[call], depth(set, call) - depth(set, CALLS));
+            printf("stack %d %s %zu\n", set, names[call], depth_of(set, call) - depth_of(set, CALLS));
 }
 
 static void print_hex(const uint8_t *bytes, size_t count) {

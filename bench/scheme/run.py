@@ -32,7 +32,7 @@ def output(*words):
 
 def build(work, archive):
     program = work / "calls"
-    output("cc", "-std=gnu99", "-O3", "-Wall", "-Wextra", "-Werror", "-I", ROOT / "include", "-I", ROOT / "oracle",
+    output("cc", "-std=gnu99", "-O3", "-Wall", "-Wextra", "-Werror", "-I", ROOT / "include", "-I", ROOT / "oracle", "-I", ROOT / "tests",
            "-o", program, HERE / "calls.c", ROOT / "oracle/plain.c", archive)
     return program
 

@@ -1,0 +1,32 @@
+// Runs a function on a painted stack of its own, to see what it leaves there. For programs that define _XOPEN_SOURCE 700 or _GNU_SOURCE.
+#ifndef OWN_STACK_H
+#define OWN_STACK_H
+
+#include <stddef.h>
+#include <stdint.h>
+#include <string.h>
+#include <ucontext.h>
+
+enum { STACK = 1 << 17, PAINT = 0xa5 };
+static uint8_t stack[STACK];
+
+static void run_on_stack(void (*function)(void)) {
+    static ucontext_t here, there;
+    memset(stack, PAINT, STACK);
+    getcontext(&there);
+    there.uc_stack.ss_sp = stack;
+    there.uc_stack.ss_size = STACK;
+    there.uc_link = &here;
+    makecontext(&there, function, 0);
+    swapcontext(&here, &there);
+}
+
+// The bytes from the lowest one that the function changed to the top.
+static size_t depth(void) {
+    size_t low = 0;
+    while (low < STACK && stack[low] == PAINT)
+        low++;
+    return STACK - low;
+}
+
+#endif
