@@ -1,4 +1,5 @@
-"""The files of definitions, which are what a reader has to believe: those of crates/*/specs whose first comment says `Definitions only.`
+"""The files of definitions, which are what a reader has to believe: those of crates/*/specs whose first comment says
+`Definitions only.`
 
     python3 tests/definitions.py
 
@@ -37,7 +38,8 @@ def main():
             if cited not in definitions and cited[1] != "declared":
                 failed.append(f"{crate}/{file} cites {'/'.join(cited)}, no file of definitions")
     for (crate, file), text in definitions.items():
-        failed += [f"{crate}/{file} holds a proof: {line.strip()}" for line in code(text).splitlines() if PROOF.search(line)]
+        proofs = [line.strip() for line in code(text).splitlines() if PROOF.search(line)]
+        failed += [f"{crate}/{file} holds a proof: {line}" for line in proofs]
     print(" ".join(sorted("/".join(name) for name in definitions)))
     print(f"{len(definitions)} files of definitions, {len(sources)} sources, {len(failed)} failed")
     sys.exit("\n".join(failed) or not definitions)

@@ -1,10 +1,9 @@
 -- Demand 3, as document 01's "Noise" reads it: the noise of the four seeds, when it is within the bounds, and what the steps and the four
 -- calls then give. Definitions only.
-use Prim.Native.Nat.{ℕ, _*_, _<_}
+use Prim.Native.Nat.{ℕ, _<_}
 use mathlib.Core.List.{List}
 use mathlib.Core.Path.{_≡_}
 use lib.IntN.{ℤ}
-use lib.ListN.{take}
 use Rattle.sets.specs.declared.Params.{Params}
 use Rattle.sets.specs.Sets.{paramsOf}
 use Rattle.algebra.specs.Ring.{poly}
@@ -36,21 +35,14 @@ module _ (p : Params) (matrixSeed secretSeed seed : List ℕ) where
   abbrev pub Quiet : Type 0
   Quiet = Within (p .margin) seedsNoise
 
--- the keys and the ciphertext that the steps reckon from the four seeds
-module _ (p : Params) (matrixSeed secretSeed z seed : List ℕ) where
-  abbrev pub reckonedPublic : List ℕ
-  reckonedPublic = publicKey p matrixSeed secretSeed
+  -- the ciphertext that the steps reckon from the seeds
+  abbrev pub seedsCiphertext : List ℕ
+  seedsCiphertext = sealedCiphertext p (publicKey p matrixSeed secretSeed) seed
 
-  abbrev pub reckonedSecret : List ℕ
-  reckonedSecret = secretKey p matrixSeed secretSeed z
-
-  abbrev pub reckonedCiphertext : List ℕ
-  reckonedCiphertext = sealedCiphertext p reckonedPublic seed
-
-  -- decryption of it gives back m, and unsealing the shared secret of sealing
-  pub record Returned : Type 0 where
-    pub message : decrypted p (plainPart p reckonedSecret) reckonedCiphertext ≡ messageOf seed
-    pub secret : unsealedSecret p reckonedSecret reckonedCiphertext ≡ sealedSecret p reckonedPublic seed
+  -- with the secret key that they reckon, decryption gives back m, and unsealing the shared secret of sealing
+  pub record Returned (z : List ℕ) : Type 0 where
+    pub message : decrypted p (plainPart p (secretKey p matrixSeed secretSeed z)) seedsCiphertext ≡ messageOf seed
+    pub secret : unsealedSecret p (secretKey p matrixSeed secretSeed z) seedsCiphertext ≡ sealedSecret p (publicKey p matrixSeed secretSeed) seed
 
 -- the set that keys are made under
 abbrev pub rowOf : SetNumbers → Params

@@ -25,7 +25,7 @@ use Rattle.kem.specs.Kem.{coinsOf, messageOf, publicKey, plainSecret, secretKey
 use Rattle.kem.specs.Kem.{sealedCiphertext, sealedSecret, plainPart, keyPart, hashPart, unsealedSecret}
 use Rattle.noise.specs.Noise.{Fits}
 use Rattle.noise.specs.Theorem.{fits}
-use Rattle.correctness.specs.Claim.{seedsNoise, Quiet, Returned, reckonedPublic, reckonedSecret, reckonedCiphertext}
+use Rattle.correctness.specs.Claim.{seedsNoise, seedsCiphertext, Quiet, Returned}
 use Rattle.correctness.specs.Opening.{length-packed, length-vector, length-data, decrypts}
 
 module _ (p : Params) (is : Valid p) (matrixSeed secretSeed z : List ℕ) where
@@ -101,21 +101,21 @@ module _ (set : ℕ) (known : 0 < paramsOf set .l) (matrixSeed secretSeed z seed
   step = sized set .stepIs known
 
   -- the lengths of the keys and the ciphertext are the set's
-  pub public-long : length (reckonedPublic p matrixSeed secretSeed z seed) ≡ p .pk
+  pub public-long : length (publicKey p matrixSeed secretSeed) ≡ p .pk
   public-long = length-public p is matrixSeed secretSeed z ∙ sym (is .pkIs)
 
-  pub secret-long : length z ≡ 32 → length (reckonedSecret p matrixSeed secretSeed z seed) ≡ p .sk
+  pub secret-long : length z ≡ 32 → length (secretKey p matrixSeed secretSeed z) ≡ p .sk
   secret-long long = length-secretKey p is matrixSeed secretSeed z long ∙ sym (sized set .skIs known)
 
-  pub plain-long : length (plainPart p (reckonedSecret p matrixSeed secretSeed z seed)) ≡ 416 * p .l
+  pub plain-long : length (plainPart p (secretKey p matrixSeed secretSeed z)) ≡ 416 * p .l
   plain-long = rw (plain-in p is matrixSeed secretSeed z) (length-plain p is matrixSeed secretSeed z)
 
-  pub ciphertext-long : length (reckonedCiphertext p matrixSeed secretSeed z seed) ≡ p .ct
+  pub ciphertext-long : length (seedsCiphertext p matrixSeed secretSeed seed) ≡ p .ct
   unfolding sealedCiphertext
   ciphertext-long = length-cipher p is step (fits set known) _ (messageOf seed) _
 
   module _ (quiet : Quiet p matrixSeed secretSeed seed) where
-    message-back : decrypted p (plainPart p (reckonedSecret p matrixSeed secretSeed z seed)) (reckonedCiphertext p matrixSeed secretSeed z seed) ≡ messageOf seed
+    message-back : decrypted p (plainPart p (secretKey p matrixSeed secretSeed z)) (seedsCiphertext p matrixSeed secretSeed seed) ≡ messageOf seed
     unfolding seedsNoise sealedCiphertext publicKey plainSecret
     message-back =
         rw (plain-in p is matrixSeed secretSeed z)
@@ -124,17 +124,17 @@ module _ (set : ℕ) (known : 0 < paramsOf set .l) (matrixSeed secretSeed z seed
         (sponge-below 136 6 seed 32) quiet)
 
     secret-back :
-        unsealedSecret p (reckonedSecret p matrixSeed secretSeed z seed) (reckonedCiphertext p matrixSeed secretSeed z seed)
-        ≡ sealedSecret p (reckonedPublic p matrixSeed secretSeed z seed) seed
+        unsealedSecret p (secretKey p matrixSeed secretSeed z) (seedsCiphertext p matrixSeed secretSeed seed)
+        ≡ sealedSecret p (publicKey p matrixSeed secretSeed) seed
     unfolding unsealedSecret sealedSecret sealedCiphertext
     secret-back =
         rw (
           message-back,
           key-in p is matrixSeed secretSeed z,
           hash-in p is matrixSeed secretSeed z,
-          same-refl (reckonedCiphertext p matrixSeed secretSeed z seed),
+          same-refl (seedsCiphertext p matrixSeed secretSeed seed),
         )
 
     -- demand 3 over the steps
-    pub returned : Returned p matrixSeed secretSeed z seed
+    pub returned : Returned p matrixSeed secretSeed seed z
     returned = record { message = message-back; secret = secret-back }

@@ -11,10 +11,10 @@ use Rattle.questions.specs.Laws.{accepted}
 use Rattle.sets.specs.declared.Params.{Params}
 use Rattle.sets.specs.Sets.{paramsOf, known}
 use Rattle.pke.specs.Promises.{Decrypted}
-use Rattle.kem.specs.Kem.{plainPart, sealedCiphertext, sealedSecret}
+use Rattle.kem.specs.Kem.{publicKey, secretKey, plainPart, sealedCiphertext, sealedSecret}
 use Rattle.kem.specs.Promises.{Encapsulated, Decapsulated}
 use Rattle.correctness.specs.declared.SetNumbers.{SetNumbers}
-use Rattle.correctness.specs.Claim.{OneSet, Quiet, Ready, Calls, Answered, Opened, reckonedPublic, reckonedSecret, reckonedCiphertext}
+use Rattle.correctness.specs.Claim.{seedsCiphertext, OneSet, Quiet, Ready, Calls, Answered, Opened}
 use Rattle.correctness.specs.Promises.{earliest, RoundTrip}
 use Rattle.correctness.specs.Steps.{public-long, secret-long, plain-long, ciphertext-long, returned}
 
@@ -73,10 +73,10 @@ module _
         eq-eqb (length sk) (p .sk) (ready .skLong),
       )
 
-  pk-is : pk' ≡ reckonedPublic p matrixSeed secretSeed z seed
+  pk-is : pk' ≡ publicKey p matrixSeed secretSeed
   pk-is = taken _ pk makes (calls .making .public)
 
-  sk-is : sk' ≡ reckonedSecret p matrixSeed secretSeed z seed
+  sk-is : sk' ≡ secretKey p matrixSeed secretSeed z
   sk-is = taken _ sk makes (calls .making .secret)
 
   seals : r2 ≡ 0
@@ -90,7 +90,7 @@ module _
         eq-eqb (length ss) 32 (ready .ssLong),
       )
 
-  ct-is : ct' ≡ reckonedCiphertext p matrixSeed secretSeed z seed
+  ct-is : ct' ≡ seedsCiphertext p matrixSeed secretSeed seed
   ct-is = taken _ ct seals (sealing .ciphertext) ∙ ap (λ (k : List ℕ). sealedCiphertext p k seed) pk-is
 
   ct-long : length ct' ≡ p .ct
