@@ -1,12 +1,4 @@
 pub mod Integers
 pub mod Ring
-pub mod Whole
-pub mod Sums
-pub mod Residues
 pub mod Columns
-pub mod Table
-pub mod Module
-pub mod Operators
-pub mod Product
-pub mod Reduced
-pub mod Vectors
+pub mod Laws

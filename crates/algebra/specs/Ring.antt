@@ -4,7 +4,7 @@ use Prim.Native.Nat.{ℕ, zero, suc, _+_, _*_, _-_}
 use mathlib.Core.List.{List, [], _++_, map}
 use lib.IntN.{ℤ, pos, _*ℤ_, _-ℤ_}
 use lib.ListN.{getD, take, drop}
-use Rattle.questions.specs.Lists.{from}
+use Rattle.lists.specs.Lists.{from}
 use Rattle.algebra.specs.Integers.{modℤ, sum}
 
 -- the coefficient of X^k

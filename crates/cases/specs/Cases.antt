@@ -4,10 +4,11 @@ use mathlib.Core.List.{List, [], _∷_, _++_, map}
 use mathlib.Core.Path.{_≡_, refl}
 use lib.Count.{ones, onesIn}
 use lib.ListN.{take, replicate}
-use Rattle.questions.specs.Lists.{from}
+use Rattle.lists.specs.Lists.{from}
 use Rattle.sets.specs.declared.Params.{Params}
 use Rattle.sets.specs.Sets.{paramsOf}
-use Rattle.packing.specs.Packing.{number, digits, recut, packed}
+use Rattle.lists.specs.Numbers.{number, digits}
+use Rattle.packing.specs.Packing.{recut, packed}
 use Rattle.algebra.specs.Integers.{sum}
 use Rattle.algebra.specs.Ring.{coef, mul, residues}
 use Rattle.ring.specs.Products.{product}

@@ -8,13 +8,15 @@ use native.Mathlib.Omega.{arith}
 use lib.IntN.{ℤ}
 use lib.ListN.{length, getD, take, drop, length-map}
 use lib.Seq.{take-at, drop-at}
-use Rattle.questions.specs.Laws.{all-below-at, length-from, from-at}
+use Rattle.questions.specs.Laws.Bounds.{all-below-at}
+use Rattle.lists.specs.Laws.Lists.{length-from, from-at}
 use Rattle.sets.specs.declared.Params.{Params}
 use Rattle.algebra.specs.Ring.{residues, poly}
-use Rattle.algebra.specs.Reduced.{residues-below}
-use Rattle.algebra.specs.Vectors.{length-poly}
-use Rattle.packing.specs.Packing.{packed, unpacked, Below}
-use Rattle.packing.specs.Laws.{recut-length, recut-below, unpacked-packed, packed-unpacked}
+use Rattle.algebra.specs.Laws.Reduced.{residues-below}
+use Rattle.algebra.specs.Laws.Vectors.{length-poly}
+use Rattle.packing.specs.Packing.{packed, unpacked}
+use Rattle.lists.specs.Numbers.{Below}
+use Rattle.packing.specs.Laws.Packing.{recut-length, recut-below, unpacked-packed, packed-unpacked}
 use Rattle.ring.specs.Products.{entry, innerMod, matrixVector}
 use Rattle.ring.specs.Rounding.{round}
 use Rattle.ring.specs.Laws.{inner-secret, length-matrixVector, round-below}

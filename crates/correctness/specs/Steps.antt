@@ -9,7 +9,7 @@ use lib.Seq.{take-at, drop-at, drop-drop}
 use borrow.Author.Tests.{lt-ltb}
 use Rattle.sets.specs.declared.Params.{Params}
 use Rattle.sets.specs.Sets.{paramsOf}
-use Rattle.sets.specs.Laws.{sized}
+use Rattle.sets.specs.Laws.Rows.{sized}
 use Rattle.algebra.specs.Integers.{modℤ}
 use Rattle.algebra.specs.Ring.{residues}
 use Rattle.packing.specs.Packing.{unpacked}
@@ -20,9 +20,9 @@ use Rattle.sampling.specs.Laws.{length-secret}
 use Rattle.pke.specs.Pke.{roundedVector, dataPoly, encrypted, decrypted}
 use Rattle.pke.specs.Promises.{Valid}
 use Rattle.pke.specs.Laws.{valid}
-use Rattle.kem.specs.Comparison.{same-refl}
-use Rattle.kem.specs.Kem.{coinsOf, messageOf, publicKey, plainSecret, secretKey}
-use Rattle.kem.specs.Kem.{sealedCiphertext, sealedSecret, plainPart, keyPart, hashPart, unsealedSecret}
+use Rattle.lists.specs.Laws.Strings.{same-refl}
+use Rattle.kem.specs.Kem.{coinsOf, messageOf, publicKey, plainSecret, secretKey, sealedCiphertext, sealedSecret, plainPart, keyPart, hashPart}
+use Rattle.kem.specs.Kem.{unsealedSecret}
 use Rattle.noise.specs.Noise.{Fits}
 use Rattle.noise.specs.Theorem.{fits}
 use Rattle.correctness.specs.Claim.{seedsNoise, seedsCiphertext, Quiet, Returned}

@@ -7,7 +7,7 @@ use native.Mathlib.Omega.{arith}
 use lib.ListN.{length}
 use borrow.Author.Tests.{eq-eqb, lt-ltb}
 use Rattle.questions.specs.Answers.{written}
-use Rattle.questions.specs.Laws.{accepted}
+use Rattle.questions.specs.Laws.Answers.{accepted}
 use Rattle.sets.specs.declared.Params.{Params}
 use Rattle.sets.specs.Sets.{paramsOf, known}
 use Rattle.pke.specs.Promises.{Decrypted}

@@ -13,7 +13,7 @@ use Rattle.packing.specs.Packing.{packed}
 use Rattle.sampling.specs.Sampling.{secret}
 use Rattle.sha3.specs.Sponge.{shake128, sha3-256, sha3-512}
 use Rattle.pke.specs.Pke.{roundedVector, encrypted, decrypted}
-use Rattle.kem.specs.Same.{same}
+use Rattle.lists.specs.Strings.{same}
 
 -- k and r, the first and the second half of SHA3-512 of m followed by the hash of the public key
 abbrev pub keyOf : List ℕ → List ℕ → List ℕ

@@ -10,11 +10,12 @@ use lib.ListN.{length, take, drop, drop-of-length-le}
 use lib.Seq.{take-all}
 use borrow.Rule.Slice.PartMut.{putMid, midOf}
 use borrow.Author.Tests.{eqb-true}
-use Rattle.questions.specs.Parts.{last-part, two-parts}
-use Rattle.questions.specs.Laws.{asked, and-left, and-right}
+use Rattle.lists.specs.Laws.Parts.{last-part, two-parts}
+use Rattle.questions.specs.Laws.Answers.{asked}
+use Rattle.lists.specs.Laws.Booleans.{and-left, and-right}
 use Rattle.sets.specs.declared.Params.{Params}
 use Rattle.sets.specs.Sets.{paramsOf, known}
-use Rattle.sets.specs.Laws.{sized}
+use Rattle.sets.specs.Laws.Rows.{sized}
 use Rattle.algebra.specs.Ring.{nat, residues}
 use Rattle.packing.specs.Packing.{packed}
 use Rattle.sha3.specs.Sponge.{shake128, sha3-256, sha3-512}
@@ -23,9 +24,9 @@ use Rattle.sampling.specs.Sampling.{secret}
 use Rattle.pke.specs.Pke.{roundedVector, encrypted, decrypted}
 use Rattle.ring.specs.Laws.{matrix-secret}
 use Rattle.pke.specs.Laws.{valid}
-use Rattle.kem.specs.Same.{same}
-use Rattle.kem.specs.Kem.{sharedSecret, rejectedSecret, publicKey, plainSecret, secretKey, sealedCiphertext, sealedSecret}
-use Rattle.kem.specs.Kem.{plainPart, keyPart, hashPart, zPart, unsealedSecret, keygenAnswer, encapsAnswer, decapsAnswer}
+use Rattle.lists.specs.Strings.{same}
+use Rattle.kem.specs.Kem.{sharedSecret, rejectedSecret, publicKey, plainSecret, secretKey, sealedCiphertext, sealedSecret, plainPart, keyPart}
+use Rattle.kem.specs.Kem.{hashPart, zPart, unsealedSecret, keygenAnswer, encapsAnswer, decapsAnswer}
 use Rattle.kem.specs.Promises.{KeygenRoom, KeysMade, EncapsRoom, EncapsDone, DecapsRoom}
 
 -- an answer of 0 gives the work the lengths that it asks

@@ -5,13 +5,13 @@ use mathlib.Core.Path.{_≡_}
 use native.Mathlib.Omega.{arith}
 use lib.IntN.{ℤ, pos, _+ℤ_, _*ℤ_, _-ℤ_}
 use lib.ListN.{length, getD, List·getD-map}
-use Rattle.questions.specs.Laws.{from-at}
+use Rattle.lists.specs.Laws.Lists.{from-at}
 use Rattle.algebra.specs.Integers.{modℤ}
-use Rattle.algebra.specs.Whole.{add-split, up-mul, dn-mul}
-use Rattle.algebra.specs.Residues.{Same, mod-of, same-residue, same-sym, same-trans}
+use Rattle.algebra.specs.Laws.Whole.{add-split, up-mul, dn-mul}
+use Rattle.algebra.specs.Laws.Residues.{Same, mod-of, same-residue, same-sym, same-trans}
 use Rattle.algebra.specs.Ring.{at, inner, nat, residues}
-use Rattle.algebra.specs.Product.{inner-adjoint}
-use Rattle.algebra.specs.Reduced.{at-nat, at-residues, inner-carries}
+use Rattle.algebra.specs.Laws.Product.{inner-adjoint}
+use Rattle.algebra.specs.Laws.Reduced.{at-nat, at-residues, inner-carries}
 use Rattle.ring.specs.Rounding.{round}
 use Rattle.noise.specs.Noise.{error, times, rounded, errors, transposed, e, e′, v, v′, noise}
 use Rattle.noise.specs.Errors.{sub-split, round-error}

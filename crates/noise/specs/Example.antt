@@ -5,7 +5,7 @@ use mathlib.Core.List.{List, [], _∷_}
 use mathlib.Core.Path.{_≡_, refl}
 use native.Mathlib.Omega.{arith}
 use lib.IntN.{ℤ, pos, negℤ}
-use Rattle.questions.specs.Lists.{from}
+use Rattle.lists.specs.Lists.{from}
 use Rattle.algebra.specs.Integers.{sum}
 use Rattle.algebra.specs.Ring.{coef, inner}
 use Rattle.noise.specs.Noise.{times, errors, e, e′, noise, Within}

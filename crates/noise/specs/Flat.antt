@@ -5,8 +5,8 @@ use mathlib.Core.Path.{_≡_, refl, ap}
 use lib.IntN.{ℤ}
 use lib.ListN.{length, length-map}
 use Rattle.algebra.specs.Ring.{inner, nat, residues, poly, blocks}
-use Rattle.algebra.specs.Product.{length-inner, inner-cong}
-use Rattle.algebra.specs.Vectors.{map-blocks, poly-blocks}
+use Rattle.algebra.specs.Laws.Product.{length-inner, inner-cong}
+use Rattle.algebra.specs.Laws.Vectors.{map-blocks, poly-blocks}
 use Rattle.ring.specs.Rounding.{round}
 use Rattle.ring.specs.Products.{innerMod, matrixRow, matrixVector, entry, timesVector, transposedTimesVector}
 use Rattle.noise.specs.Noise.{times, rounded, v, v′}

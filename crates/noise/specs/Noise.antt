@@ -5,7 +5,7 @@ use mathlib.Core.List.{List, map}
 use mathlib.Core.Path.{_≡_}
 use lib.IntN.{ℤ, pos, _+ℤ_, _-ℤ_}
 use lib.ListN.{length, getD}
-use Rattle.questions.specs.Lists.{from}
+use Rattle.lists.specs.Lists.{from}
 use Rattle.algebra.specs.Integers.{up, dn, modℤ, quotℤ}
 use Rattle.algebra.specs.Ring.{at, inner, nat, residues}
 use Rattle.ring.specs.Rounding.{round}

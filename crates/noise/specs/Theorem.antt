@@ -8,9 +8,9 @@ use native.Mathlib.Omega.{arith}
 use lib.IntN.{ℤ}
 use lib.ListN.{length, getD, length-map, List·getD-map}
 use lib.Seq.{ext-getD}
-use Rattle.questions.specs.Laws.{from-at, length-from}
+use Rattle.lists.specs.Laws.Lists.{from-at, length-from}
 use Rattle.algebra.specs.Ring.{at}
-use Rattle.algebra.specs.Product.{length-inner}
+use Rattle.algebra.specs.Laws.Product.{length-inner}
 use Rattle.sets.specs.Sets.{paramsOf}
 use Rattle.reconciliation.specs.Reconciliation.{dataOf, bitOf, reconData, recovered}
 use Rattle.reconciliation.specs.Laws.{length-recovered}

@@ -14,8 +14,8 @@ use Rattle.notation.specs.declared.Word.{Word}
 use Rattle.notation.specs.declared.Decimal.the-variants.{Value, None}
 use Rattle.notation.specs.declared.Reason.{Reason}
 use Rattle.notation.specs.declared.Reason.the-variants.{WrongCount, BadDigit, OddCount}
-use Rattle.notation.specs.Notation.{part, wordAt, allDigits, isDash, isSound, soundAt, unreadableAt, list, fault, spelled}
-use Rattle.notation.specs.Notation.{Taken, noItems, takenWord, word, argument, decimalOf, numberWord, readNumber}
+use Rattle.notation.specs.Notation.{part, wordAt, allDigits, isDash, isSound, soundAt, unreadableAt, list, fault, spelled, Taken, noItems}
+use Rattle.notation.specs.Notation.{takenWord, word, argument, decimalOf, numberWord, readNumber}
 use Rattle.notation.specs.Laws.{word-part}
 use Rattle.notation.specs.Promises.{noDigits, Spells, WordEnd, Digits, Reads, ReadsNumber}
 

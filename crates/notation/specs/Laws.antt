@@ -14,9 +14,9 @@ use lib.Seq.{drop-cons}
 use borrow.Author.Tests.{lt-ltb, le-ltb, le-leb, lt-leb, eq-eqb, ne-eqb, ltb-true}
 use Rattle.notation.specs.declared.Decimal.the-variants.{Value}
 use Rattle.questions.specs.Answers.{allBelow}
-use Rattle.questions.specs.Laws.{and-left, and-right}
-use Rattle.notation.specs.Notation.{until, part, wordAt, digitValue, pairValue, allDigits, hexDigit, split, join, hexOfBytes, hexOfCoefficients}
-use Rattle.notation.specs.Notation.{bytesOfHex, coefficientsOfHex, shown, list, spelled, decimalFrom, decimalOf, decimal}
+use Rattle.lists.specs.Laws.Booleans.{and-left, and-right}
+use Rattle.notation.specs.Notation.{until, part, wordAt, digitValue, pairValue, allDigits, hexDigit, split, join, hexOfBytes}
+use Rattle.notation.specs.Notation.{hexOfCoefficients, bytesOfHex, coefficientsOfHex, shown, list, spelled, decimalFrom, decimalOf, decimal}
 
 -- numbers in two digits each
 pub length-split : (base : ℕ) (xs : List ℕ) → length (split base xs) ≡ 2 * length xs

@@ -9,7 +9,8 @@ use native.Mathlib.Numerals.{add-one}
 use lib.ListN.{length, getD, set, take, drop, length-set, drop-of-length-le}
 use lib.Seq.{sets, length-sets, drop-cons, take-suc-set, take-all}
 use borrow.Author.Tests.{lt-ltb, le-ltb, ne-eqb}
-use Rattle.notation.specs.Notation.{until, digitValue, pairValue, allDigits, join, bytesOfHex, coefficientsOfHex, decimalFrom, decimalOf, shown}
+use Rattle.notation.specs.Notation.{until, digitValue, pairValue, allDigits, join, bytesOfHex, coefficientsOfHex, decimalFrom, decimalOf}
+use Rattle.notation.specs.Notation.{shown}
 use Rattle.notation.specs.Laws.{Pair, pair-good, pair-bad, capped-from, until-more, until-here, until-end, shown-some, decimal-as}
 use Rattle.notation.specs.Text.{sets-append, sets-out, puts-as}
 use Rattle.notation.specs.declared.Decimal.the-variants.{Value, None}

@@ -8,10 +8,11 @@ use lib.Dec.{eqb, lit≤}
 use lib.IntN.{ℤ}
 use lib.ListN.{take, drop}
 use borrow.Author.Tests.{eqb-true, ltb-true}
-use Rattle.questions.specs.Laws.{asked, and-left}
+use Rattle.questions.specs.Laws.Answers.{asked}
+use Rattle.lists.specs.Laws.Booleans.{and-left}
 use Rattle.sets.specs.declared.Params.{Params}
 use Rattle.sets.specs.Sets.{paramsOf, known}
-use Rattle.sets.specs.Laws.{sized}
+use Rattle.sets.specs.Laws.Rows.{sized}
 use Rattle.algebra.specs.Ring.{nat, residues}
 use Rattle.packing.specs.Packing.{packed, unpacked}
 use Rattle.ring.specs.Rounding.{round}

@@ -11,12 +11,14 @@ use lib.IntN.{pos, negℤ, _+ℤ_, _-ℤ_}
 use lib.ListN.{length, getD, length-map}
 use borrow.Author.Tests.{eqb-true, ltb-true}
 use Rattle.questions.specs.Answers.{allBelow}
-use Rattle.questions.specs.Laws.{asked, and-left, and-right, length-from, from-at, from-map}
+use Rattle.questions.specs.Laws.Answers.{asked}
+use Rattle.lists.specs.Laws.Booleans.{and-left, and-right}
+use Rattle.lists.specs.Laws.Lists.{length-from, from-at, from-map}
 use Rattle.sets.specs.declared.Params.{Params}
 use Rattle.sets.specs.Sets.{paramsOf, known}
 use Rattle.algebra.specs.Integers.{modℤ}
-use Rattle.algebra.specs.Whole.{up-neg, dn-neg, add-split}
-use Rattle.algebra.specs.Residues.{mod-of, mod-bound}
+use Rattle.algebra.specs.Laws.Whole.{up-neg, dn-neg, add-split}
+use Rattle.algebra.specs.Laws.Residues.{mod-of, mod-bound}
 use Rattle.reconciliation.specs.Reconciliation.{dataOf, bitOf, reconData, recovered, reconDataAnswer, recoverAnswer}
 use Rattle.reconciliation.specs.Promises.{Step, ReconRoom, RecoverRoom}
 

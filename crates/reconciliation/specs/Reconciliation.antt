@@ -7,7 +7,7 @@ use lib.Dec.{eqb}
 use lib.IntN.{pos, _+ℤ_, _-ℤ_}
 use lib.ListN.{length, getD}
 use Rattle.questions.specs.Answers.{ask, allBelow}
-use Rattle.questions.specs.Lists.{from}
+use Rattle.lists.specs.Lists.{from}
 use Rattle.sets.specs.Sets.{paramsOf, known}
 use Rattle.algebra.specs.Integers.{modℤ}
 

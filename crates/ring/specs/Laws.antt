@@ -11,11 +11,13 @@ use lib.ListN.{length, length-map}
 use lib.Seq.{take-all}
 use borrow.Author.Tests.{eqb-true, lt-ltb}
 use Rattle.questions.specs.Answers.{allBelow}
-use Rattle.questions.specs.Laws.{from-cong, asked, and-left, and-right, or-cases}
+use Rattle.lists.specs.Laws.Lists.{from-cong}
+use Rattle.questions.specs.Laws.Answers.{asked}
+use Rattle.lists.specs.Laws.Booleans.{and-left, and-right, or-cases}
 use Rattle.algebra.specs.Integers.{modℤ, sum}
-use Rattle.algebra.specs.Reduced.{residues-coarser, residues-nat, inner-residues}
-use Rattle.algebra.specs.Product.{length-inner}
-use Rattle.algebra.specs.Vectors.{poly-map, blocks-cong, length-blocks}
+use Rattle.algebra.specs.Laws.Reduced.{residues-coarser, residues-nat, inner-residues}
+use Rattle.algebra.specs.Laws.Product.{length-inner}
+use Rattle.algebra.specs.Laws.Vectors.{poly-map, blocks-cong, length-blocks}
 use Rattle.algebra.specs.Ring.{coef, inner, mul, nat, residues, poly}
 use Rattle.ring.specs.Products.{product, innerMod, matrixRow, matrixVector, mulAnswer}
 use Rattle.ring.specs.Rounding.{round, roundAnswer}

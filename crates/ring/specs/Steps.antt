@@ -9,16 +9,16 @@ use lib.IntN.{ℤ, pos, _+ℤ_, _*ℤ_}
 use lib.ListN.{length, getD, take, drop, length-map, length-take, length-drop}
 use lib.Pow.{pow-pos, pow-add}
 use lib.Seq.{take-all}
-use Rattle.questions.specs.Lists.{from}
-use Rattle.questions.specs.Laws.{length-from, map-from}
+use Rattle.lists.specs.Lists.{from}
+use Rattle.lists.specs.Laws.Lists.{length-from, map-from}
 use Rattle.algebra.specs.Integers.{modℤ, sum}
 use Rattle.algebra.specs.Ring.{at, coef, inner, nat, residues, poly}
 use Rattle.algebra.specs.Columns.{doubled, table, dot}
-use Rattle.algebra.specs.Sums.{sum-next}
-use Rattle.algebra.specs.Residues.{mod-of, mod-add, mod-neg, same-refl, same-sym, same-add, same-residue}
-use Rattle.algebra.specs.Reduced.{at-nat, residues-part, column-coef, inner-more}
-use Rattle.algebra.specs.Table.{doubled-low, doubled-high}
-use Rattle.algebra.specs.Vectors.{poly-map}
+use Rattle.algebra.specs.Laws.Sums.{sum-next}
+use Rattle.algebra.specs.Laws.Residues.{mod-of, mod-add, mod-neg, same-refl, same-sym, same-add, same-residue}
+use Rattle.algebra.specs.Laws.Reduced.{at-nat, residues-part, column-coef, inner-more}
+use Rattle.algebra.specs.Laws.Table.{doubled-low, doubled-high}
+use Rattle.algebra.specs.Laws.Vectors.{poly-map}
 use Rattle.ring.specs.Products.{innerMod, matrixRow, matrixVector, timesVector, transposedTimesVector}
 use Rattle.ring.specs.Promises.{Modulus, PlacedRoom, MatrixRoom}
 

@@ -4,7 +4,7 @@ ghost use mathlib.Core.Path.{_≡_};
 ghost use Prim.Native.Nat.{ℕ, _+_, _*_, _%_};
 ghost use lib.IntN.{_+ℤ_};
 ghost use lib.ListN.{length};
-ghost use Rattle.questions.specs.Lists.{from};
+ghost use Rattle.lists.specs.Lists.{from};
 ghost use Rattle.algebra.specs.Integers.{modℤ};
 ghost use Rattle.algebra.specs.Ring.{at, coef, nat, residues, poly};
 ghost use Rattle.algebra.specs.Columns.{table};

@@ -9,15 +9,16 @@ use lib.Dec.{eqb, ltb, lit≤}
 use lib.IntN.{pos, negsuc, natAbs, _-ℤ_}
 use lib.ListN.{length, length-map}
 use borrow.Author.Tests.{eqb-true, ltb-true}
-use Rattle.questions.specs.Laws.{asked}
+use Rattle.questions.specs.Laws.Answers.{asked}
 use Rattle.sets.specs.declared.Params.{Params}
 use Rattle.sets.specs.Sets.{paramsOf, known}
-use Rattle.sets.specs.Laws.{sized}
+use Rattle.sets.specs.Laws.Rows.{sized}
 use Rattle.algebra.specs.Integers.{modℤ}
 use Rattle.algebra.specs.Ring.{at, residues}
-use Rattle.packing.specs.Packing.{unpacked, Below}
+use Rattle.packing.specs.Packing.{unpacked}
+use Rattle.lists.specs.Numbers.{Below}
 use Rattle.packing.specs.Promises.{Fills}
-use Rattle.packing.specs.Laws.{recut-length, recut-below}
+use Rattle.packing.specs.Laws.Packing.{recut-length, recut-below}
 use Rattle.sha3.specs.Sponge.{shake128}
 use Rattle.sha3.specs.Laws.{length-sponge}
 use Rattle.sampling.specs.Sampling.{matrix, differences, secretOf, secret, genMatrixAnswer, genSecretAnswer}

@@ -1,7 +1,6 @@
-// The parameter sets by number, and the public key inside a secret key.
+// The parameter sets by number.
 ghost use mathlib.Core.Path.{_≡_};
-ghost use Rattle.sets.specs.Sets.{paramsOf, lookupAnswer, publicKeyOf};
-use questions::ask;
+ghost use Rattle.sets.specs.Sets.{paramsOf};
 
 // The parameters of a set. An unknown set has 0 everywhere.
 pub struct Params {
@@ -71,25 +70,4 @@ pub fn set_params(set: u32) -> Params
             margin: 0,
         },
     }
-}
-
-// The refusal of a lookup, or 0.
-pub fn lookup_answer(set: u32, secret_key: usize) -> u8
-    ensures { λ r. ⌜ r ≡ lookupAnswer set «secret_key» ⌝ }
-{
-    let p = set_params(set);
-    ask(0 < p.l, 1, ask(secret_key == p.sk, 5, 0))
-}
-
-// The public key inside a secret key, as a part of it; an empty part where the set is unknown or the length is not the set's.
-pub fn public_key_of(set: u32, secret_key: &[u8]) -> &[u8]
-    ensures { λ r. ⌜ now r ≡ publicKeyOf set (now («secret_key» .entry)) ⌝ }
-{
-    if lookup_answer(set, secret_key.len()) != 0 {
-        return &secret_key[0..0];
-    }
-    let p = set_params(set);
-    let a = 416 * p.l;
-    let e = a + p.pk;
-    &secret_key[a..e]
 }

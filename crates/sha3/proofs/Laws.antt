@@ -9,10 +9,10 @@ use native.Mathlib.Omega.{arith}
 use borrow.Rule.Slice.PartMut.{putMid, midOf, mid-len}
 use lib.ListN.{length, getD, take, drop, set, replicate, length-append, length-drop, length-replicate, replicate-append-replicate}
 use lib.Seq.{set-at, set-append-seam, append-snoc, take-suc, length-take-le, take-all, take-append-le, drop-append-le, getD-take}
-use Rattle.questions.specs.Lists.{from}
-use Rattle.questions.specs.Laws.{length-from, from-at, from-cong}
-use Rattle.questions.specs.Parts.{put-long, put-next}
-use Rattle.questions.specs.Fill.{Filled, fill-front}
+use Rattle.lists.specs.Lists.{from}
+use Rattle.lists.specs.Laws.Lists.{length-from, from-at, from-cong}
+use Rattle.lists.specs.Laws.Parts.{put-long, put-next}
+use Rattle.lists.specs.Laws.Fill.{Filled, fill-front}
 use Rattle.keccak.specs.Keccak.{State, lane, keccakF}
 use Rattle.sha3.specs.Sponge.{mix, laneByte, byteAt, padding, padded, absorbed, absorb, later, squeezed}
 

@@ -4,7 +4,7 @@ use mathlib.Core.List.{List}
 use Prim.Native.Nat.{ℕ, _<_}
 use native.Mathlib.Omega.{arith}
 use lib.ListN.{length, getD}
-use Rattle.questions.specs.Laws.{length-from, from-at}
+use Rattle.lists.specs.Laws.Lists.{length-from, from-at}
 use Rattle.sha3.specs.Sponge.{sponge, squeezed, byteAt, absorb}
 
 pub length-sponge : (r d : ℕ) (m : List ℕ) (n : ℕ) → length (sponge r d m n) ≡ n

@@ -3,7 +3,7 @@ ghost use mathlib.Core.Path.{_≡_};
 ghost use mathlib.Core.List.{_++_};
 ghost use Prim.Native.Nat.{_<_, _≤_, _-_, min};
 ghost use lib.ListN.{length, replicate};
-ghost use Rattle.questions.specs.Lists.{from};
+ghost use Rattle.lists.specs.Lists.{from};
 ghost use Rattle.keccak.specs.Keccak.{five, state, keccakF};
 ghost use Rattle.sha3.specs.Sponge.{joined, laneOf, mixAt, laneByte, byteAt, padding, absorb, squeezed, sponge, shake128, sha3-256, sha3-512};
 ghost use Rattle.sha3.specs.Promises.{Shaken, Hashed};

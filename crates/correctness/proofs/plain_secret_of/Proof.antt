@@ -5,7 +5,7 @@ use mathlib.Core.Path.{sym, ap, _∙_}
 use native.Mathlib.Omega.{arith}
 use lib.ListN.{take}
 use lib.Seq.{take-all}
-use Rattle.questions.specs.Parts.{first-part}
+use Rattle.lists.specs.Laws.Parts.{first-part}
 use Rattle.sets.specs.declared.Params.{Params}
 use Rattle.sampling.specs.Laws.{few-rows}
 use Rattle.correctness.proofs.plain_secret_of.Statement.{statement}

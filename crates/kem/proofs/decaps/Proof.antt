@@ -1,6 +1,6 @@
 -- `kem::decaps` meets its contract: an answer of 0 gives `decaps_into` what it asks, and any other leaves the output alone.
 use borrow.Author.Needs.{needs}
-use Rattle.questions.specs.Laws.{refused}
+use Rattle.questions.specs.Laws.Answers.{refused}
 use Rattle.kem.specs.Laws.{decaps-room}
 use Rattle.kem.proofs.decaps.Statement.{statement}
 use Rattle.kem.proofs.decaps.Tie as tie

@@ -5,7 +5,7 @@ use native.Mathlib.Omega.{arith}
 use lib.ListN.{length}
 use borrow.Author.Needs.{needs}
 use borrow.Rule.Slice.PartMut.{mid-len}
-use Rattle.questions.specs.Parts.{first-part, mid-part, last-part}
+use Rattle.lists.specs.Laws.Parts.{first-part, mid-part, last-part}
 use Rattle.kem.specs.Laws.{coins-part, decaps-steps}
 use Rattle.kem.proofs.decaps_with.Statement.{statement}
 use Rattle.kem.proofs.decaps_with.Tie as tie

@@ -1,6 +1,6 @@
 -- `kem::encaps` meets its contract: an answer of 0 gives `encaps_into` what it asks, and any other leaves the two outputs alone.
 use borrow.Author.Needs.{needs}
-use Rattle.questions.specs.Laws.{refused}
+use Rattle.questions.specs.Laws.Answers.{refused}
 use Rattle.kem.specs.Laws.{encaps-room}
 use Rattle.kem.proofs.encaps.Statement.{statement}
 use Rattle.kem.proofs.encaps.Tie as tie

@@ -1,6 +1,6 @@
 -- `kem::keygen` meets its contract: an answer of 0 gives `keygen_into` what it asks, and any other leaves the two keys alone.
 use borrow.Author.Needs.{needs}
-use Rattle.questions.specs.Laws.{refused}
+use Rattle.questions.specs.Laws.Answers.{refused}
 use Rattle.kem.specs.Laws.{keygen-room}
 use Rattle.kem.proofs.keygen.Statement.{statement}
 use Rattle.kem.proofs.keygen.Tie as tie

@@ -1,8 +1,8 @@
 -- `packing::pack` meets its contract: an answer of 0 is what `pack_into` asks, and any other leaves the output.
 use borrow.Author.Needs.{needs}
 use mathlib.Core.Path.{sym, _∙_}
-use Rattle.questions.specs.Laws.{refused}
-use Rattle.packing.proofs.Room.{pack-room}
+use Rattle.questions.specs.Laws.Answers.{refused}
+use Rattle.packing.specs.Laws.Room.{pack-room}
 use Rattle.packing.proofs.pack.Statement.{statement}
 use Rattle.packing.proofs.pack.Tie as tie
 

@@ -8,7 +8,7 @@ use native.Mathlib.Omega.{arith}
 use native.Mathlib.Nat.{one-mul}
 use lib.Pow.{shl-exact}
 use Rattle.packing.specs.Packing.{isWidth, packAnswer}
-use Rattle.packing.proofs.Room.{Width, width-bounds}
+use Rattle.packing.specs.Laws.Room.{Width, width-bounds}
 use Rattle.packing.proofs.pack_answer.Statement.{statement}
 use Rattle.packing.proofs.pack_answer.Tie as tie
 

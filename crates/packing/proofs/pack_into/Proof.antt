@@ -8,8 +8,8 @@ use native.Mathlib.Nat.{mul-zero, mul-le-mul-left, lt-of-lt-of-le}
 use lib.ListN.{length, getD, take, drop}
 use lib.Pow.{pow-mono}
 use lib.Seq.{drop-cons}
-use Rattle.packing.specs.Packing.{number}
-use Rattle.packing.proofs.Cutting.{Cutting, start, read, write, to-write, done}
+use Rattle.lists.specs.Numbers.{number}
+use Rattle.packing.specs.Laws.Cutting.{Cutting, start, read, write, to-write, done}
 use Rattle.packing.proofs.pack_into.Statement.{statement}
 use Rattle.packing.proofs.pack_into.Tie as tie
 

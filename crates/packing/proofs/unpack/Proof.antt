@@ -1,8 +1,8 @@
 -- `packing::unpack` meets its contract: an answer of 0 is what `unpack_into` asks, and any other leaves the output.
 use borrow.Author.Needs.{needs}
 use mathlib.Core.Path.{sym, _∙_}
-use Rattle.questions.specs.Laws.{refused}
-use Rattle.packing.proofs.Room.{unpack-room}
+use Rattle.questions.specs.Laws.Answers.{refused}
+use Rattle.packing.specs.Laws.Room.{unpack-room}
 use Rattle.packing.proofs.unpack.Statement.{statement}
 use Rattle.packing.proofs.unpack.Tie as tie
 

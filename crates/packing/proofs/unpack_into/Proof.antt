@@ -6,8 +6,8 @@ use mathlib.Core.Logic.{⊎-elim}
 use mathlib.Core.Path.{_≡_, refl, sym}
 use native.Mathlib.Omega.{arith}
 use lib.ListN.{length, length-set}
-use Rattle.packing.specs.Packing.{digits}
-use Rattle.packing.proofs.Cutting.{Cutting, start, read, write, to-read, done}
+use Rattle.lists.specs.Numbers.{digits}
+use Rattle.packing.specs.Laws.Cutting.{Cutting, start, read, write, to-read, done}
 use Rattle.packing.proofs.unpack_into.Statement.{statement}
 use Rattle.packing.proofs.unpack_into.Tie as tie
 

@@ -1,6 +1,6 @@
 -- `pke::decrypt` meets its contract: an answer of 0 gives `decrypt_into` what it asks, and any other leaves the message alone.
 use borrow.Author.Needs.{needs}
-use Rattle.questions.specs.Laws.{refused}
+use Rattle.questions.specs.Laws.Answers.{refused}
 use Rattle.pke.specs.Laws.{decrypt-room}
 use Rattle.pke.proofs.decrypt.Statement.{statement}
 use Rattle.pke.proofs.decrypt.Tie as tie

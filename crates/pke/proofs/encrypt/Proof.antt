@@ -1,6 +1,6 @@
 -- `pke::encrypt` meets its contract: an answer of 0 gives `encrypt_into` what it asks, and any other leaves the ciphertext alone.
 use borrow.Author.Needs.{needs}
-use Rattle.questions.specs.Laws.{refused}
+use Rattle.questions.specs.Laws.Answers.{refused}
 use Rattle.pke.specs.Laws.{encrypt-room}
 use Rattle.pke.proofs.encrypt.Statement.{statement}
 use Rattle.pke.proofs.encrypt.Tie as tie

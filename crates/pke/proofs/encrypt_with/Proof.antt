@@ -3,7 +3,7 @@ use Prim.Native.Nat.{_*_}
 use mathlib.Core.Path.{_∙_}
 use native.Mathlib.Omega.{arith}
 use borrow.Author.Needs.{needs}
-use Rattle.questions.specs.Parts.{first-part, last-part, two-parts}
+use Rattle.lists.specs.Laws.Parts.{first-part, last-part, two-parts}
 use Rattle.pke.specs.Laws.{encrypt-steps}
 use Rattle.pke.proofs.encrypt_with.Statement.{statement}
 use Rattle.pke.proofs.encrypt_with.Tie as tie

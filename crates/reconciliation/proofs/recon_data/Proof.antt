@@ -2,7 +2,7 @@
 use mathlib.Core.Path.{sym, _∙_}
 use borrow.Author.Needs.{needs}
 use lib.ListN.{length}
-use Rattle.questions.specs.Laws.{refused}
+use Rattle.questions.specs.Laws.Answers.{refused}
 use Rattle.reconciliation.specs.Laws.{recon-room}
 use Rattle.reconciliation.proofs.recon_data.Statement.{statement}
 use Rattle.reconciliation.proofs.recon_data.Tie as tie

@@ -3,7 +3,7 @@ use Prim.Native.Nat.{ℕ, _≤_, _-_}
 use mathlib.Core.Path.{refl, _∙_}
 use native.Mathlib.Omega.{arith}
 use borrow.Author.Needs.{needs}
-use Rattle.questions.specs.Fill.{Filled, fill-none, fill-more, fill-all}
+use Rattle.lists.specs.Laws.Fill.{Filled, fill-none, fill-more, fill-all}
 use Rattle.algebra.specs.Integers.{modℤ}
 use Rattle.algebra.specs.Ring.{at, nat}
 use Rattle.algebra.specs.Columns.{doubled}

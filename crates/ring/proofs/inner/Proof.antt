@@ -4,7 +4,7 @@ use mathlib.Core.Path.{_≡_, refl, _∙_, ap}
 use native.Mathlib.Omega.{arith}
 use borrow.Author.Needs.{needs}
 use lib.ListN.{length, length-take, length-drop}
-use Rattle.questions.specs.Lists.{from}
+use Rattle.lists.specs.Lists.{from}
 use Rattle.algebra.specs.Integers.{sum}
 use Rattle.algebra.specs.Ring.{inner, nat, residues, poly}
 use Rattle.ring.specs.Steps.{inner-turn}

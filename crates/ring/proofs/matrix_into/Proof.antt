@@ -5,9 +5,9 @@ use mathlib.Core.Path.{_≡_, refl, _∙_, ap}
 use native.Mathlib.Omega.{arith}
 use borrow.Author.Needs.{needs}
 use lib.ListN.{length, take, length-take, length-drop}
-use Rattle.questions.specs.Parts.{put-long, put-all}
+use Rattle.lists.specs.Laws.Parts.{put-long, put-all}
 use Rattle.algebra.specs.Ring.{nat, poly, blocks}
-use Rattle.algebra.specs.Vectors.{blocks-put}
+use Rattle.algebra.specs.Laws.Vectors.{blocks-put}
 use Rattle.ring.specs.Products.{matrixRow, matrixVector}
 use Rattle.ring.specs.Steps.{row-values}
 use Rattle.ring.proofs.matrix_into.Statement.{statement}

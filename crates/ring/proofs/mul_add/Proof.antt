@@ -5,7 +5,7 @@ use native.Mathlib.Omega.{arith}
 use borrow.Author.Needs.{needs}
 use lib.IntN.{_+ℤ_}
 use lib.ListN.{length-take}
-use Rattle.questions.specs.Fill.{Filled, fill-none, fill-more, fill-all}
+use Rattle.lists.specs.Laws.Fill.{Filled, fill-none, fill-more, fill-all}
 use Rattle.algebra.specs.Integers.{modℤ}
 use Rattle.algebra.specs.Ring.{at, coef, nat}
 use Rattle.ring.specs.Steps.{part-length, add-coef}

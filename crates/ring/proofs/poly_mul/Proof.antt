@@ -4,7 +4,7 @@ use mathlib.Core.Path.{sym, _∙_}
 use native.Mathlib.Omega.{arith}
 use borrow.Author.Needs.{needs}
 use lib.ListN.{length}
-use Rattle.questions.specs.Laws.{refused}
+use Rattle.questions.specs.Laws.Answers.{refused}
 use Rattle.ring.specs.Promises.{InnerRoom}
 use Rattle.ring.specs.Laws.{mul-room, product-inner}
 use Rattle.ring.proofs.poly_mul.Statement.{statement}

@@ -4,8 +4,8 @@ use mathlib.Core.Path.{_∙_}
 use native.Mathlib.Omega.{arith}
 use borrow.Author.Needs.{needs}
 use lib.ListN.{getD}
-use Rattle.questions.specs.Fill.{Filled, fill-none, fill-more, fill-all}
-use Rattle.questions.specs.Laws.{from-map}
+use Rattle.lists.specs.Laws.Fill.{Filled, fill-none, fill-more, fill-all}
+use Rattle.lists.specs.Laws.Lists.{from-map}
 use Rattle.ring.proofs.reduce.Statement.{statement}
 use Rattle.ring.proofs.reduce.Tie as tie
 

@@ -2,7 +2,7 @@
 use mathlib.Core.Path.{sym, _∙_}
 use native.Mathlib.Omega.{arith}
 use borrow.Author.Needs.{needs}
-use Rattle.questions.specs.Laws.{refused}
+use Rattle.questions.specs.Laws.Answers.{refused}
 use Rattle.ring.specs.Laws.{round-room}
 use Rattle.ring.proofs.round.Statement.{statement}
 use Rattle.ring.proofs.round.Tie as tie

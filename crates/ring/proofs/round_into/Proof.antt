@@ -4,9 +4,9 @@ use mathlib.Core.Path.{refl, _∙_}
 use native.Mathlib.Omega.{arith}
 use borrow.Author.Needs.{needs}
 use lib.ListN.{length, getD}
-use Rattle.questions.specs.Fill.{Filled, fill-none, fill-more, fill-all}
+use Rattle.lists.specs.Laws.Fill.{Filled, fill-none, fill-more, fill-all}
 use Rattle.ring.specs.Rounding.{round}
-use Rattle.questions.specs.Laws.{from-map}
+use Rattle.lists.specs.Laws.Lists.{from-map}
 use Rattle.ring.proofs.round_into.Statement.{statement}
 use Rattle.ring.proofs.round_into.Tie as tie
 

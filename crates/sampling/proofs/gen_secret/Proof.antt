@@ -2,7 +2,7 @@
 use mathlib.Core.Path.{sym, _∙_}
 use borrow.Author.Needs.{needs}
 use lib.ListN.{length}
-use Rattle.questions.specs.Laws.{refused}
+use Rattle.questions.specs.Laws.Answers.{refused}
 use Rattle.sampling.specs.Laws.{secret-room}
 use Rattle.sampling.proofs.gen_secret.Statement.{statement}
 use Rattle.sampling.proofs.gen_secret.Tie as tie

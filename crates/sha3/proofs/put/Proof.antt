@@ -4,7 +4,7 @@ use Prim.Native.Nat.{_+_, _-_, _*_, _/_}
 use native.Mathlib.Omega.{arith}
 use borrow.Author.Needs.{needs}
 use lib.ListN.{length, length-take, length-drop}
-use Rattle.questions.specs.Fill.{Filled, fill-none, fill-all}
+use Rattle.lists.specs.Laws.Fill.{Filled, fill-none, fill-all}
 use Rattle.sha3.specs.Sponge.{byteAt}
 use Rattle.sha3.proofs.Laws.{fill-part, lane-at}
 use Rattle.sha3.proofs.put.Statement.{statement}

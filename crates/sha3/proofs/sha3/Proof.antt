@@ -5,7 +5,7 @@ use borrow.Author.Needs.{needs}
 use borrow.Author.Tests.{eqb-true}
 use denote.Ref.{now}
 use lib.ListN.{length}
-use Rattle.questions.specs.Laws.{asked, refused}
+use Rattle.questions.specs.Laws.Answers.{asked, refused}
 use Rattle.sha3.specs.Sponge.{sponge}
 use Rattle.sha3.proofs.sha3.Statement.{statement}
 use Rattle.sha3.proofs.sha3.Tie as tie

@@ -3,7 +3,7 @@ use mathlib.Core.Path.{ap, _∙_}
 use borrow.Author.Needs.{needs}
 use denote.Ref.{now}
 use lib.ListN.{length}
-use Rattle.questions.specs.Lists.{from}
+use Rattle.lists.specs.Lists.{from}
 use Rattle.keccak.specs.Keccak.{State}
 use Rattle.sha3.specs.Sponge.{sponge, squeezed}
 use Rattle.sha3.proofs.sponge.Statement.{statement}

@@ -7,7 +7,7 @@ use native.Mathlib.Numerals.{add-one}
 use native.Mathlib.Omega.{arith}
 use borrow.Author.Needs.{needs}
 use lib.ListN.{length, length-take, length-drop}
-use Rattle.questions.specs.Fill.{Filled, fill-none, fill-all}
+use Rattle.lists.specs.Laws.Fill.{Filled, fill-none, fill-all}
 use Rattle.keccak.specs.Keccak.{State, keccakF}
 use Rattle.sha3.specs.Sponge.{byteAt, later, squeezed}
 use Rattle.sha3.proofs.Laws.{fill-part, squeeze-at}

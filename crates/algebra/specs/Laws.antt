@@ -1,0 +1,9 @@
+pub mod Whole
+pub mod Residues
+pub mod Sums
+pub mod Operators
+pub mod Module
+pub mod Product
+pub mod Reduced
+pub mod Table
+pub mod Vectors

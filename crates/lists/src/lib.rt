@@ -1,0 +1,94 @@
+// Strings of bytes: copied, compared, joined, and read and written as little-endian numbers.
+ghost use mathlib.Core.List.{_++_};
+ghost use mathlib.Core.Path.{_≡_};
+ghost use Prim.Native.Nat.{_+_, _^_, _<_, _≤_};
+ghost use lib.ListN.{length, take, drop};
+ghost use Rattle.lists.specs.Numbers.{number, digits};
+ghost use Rattle.lists.specs.Strings;
+ghost use Rattle.lists.specs.Strings.{placed};
+
+// Copies a string to a place of a larger one.
+pub fn copy_at(from: &[u8], to: &mut [u8], at: usize)
+    requires { ⌜ at + length (now from) ≤ length (now to) ⌝ }
+    ensures { λ _. ⌜ now (to .exit) ≡ placed at (now (from .entry)) (now (to .entry)) ⌝ }
+{
+    let mut i = 0;
+    while i < from.len() {
+        to[at + i] = from[i];
+        i += 1;
+    }
+}
+
+// Whether two strings of one length hold the same bytes. Every byte is compared, also after a difference.
+pub fn same(a: &[u8], b: &[u8]) -> bool
+    requires { ⌜ length (now a) ≡ length (now b) ⌝ }
+    ensures { λ r. ⌜ r ≡ Strings.same (now (a .entry)) (now (b .entry)) ⌝ }
+{
+    let mut equal = true;
+    let mut i = 0;
+    while i < a.len() {
+        equal = equal & (a[i] == b[i]);
+        i += 1;
+    }
+    equal
+}
+
+// Writes two strings, one after the other.
+pub fn join(a: &[u8], b: &[u8], out: &mut [u8])
+    requires { ⌜ length (now out) ≡ length (now a) + length (now b) ⌝ }
+    ensures { λ _. ⌜ now (out .exit) ≡ now (a .entry) ++ now (b .entry) ⌝ }
+{
+    copy_at(a, out, 0);
+    copy_at(b, out, a.len());
+}
+
+fn wide(x: u8) -> u64
+    ensures { λ r. ⌜ (r ≡ x) × (r < 256) ⌝ }
+{
+    x as u64
+}
+
+// The number of four bytes from a place on.
+pub fn load32(bytes: &[u8], at: usize) -> u64
+    requires { ⌜ at + 4 ≤ length (now bytes) ⌝ }
+    ensures { λ r. ⌜ (r ≡ number 256 (take 4 (drop at (now (bytes .entry))))) × (r < 2 ^ 32) ⌝ }
+{
+    let a = wide(bytes[at]);
+    let b = wide(bytes[at + 1]);
+    let c = wide(bytes[at + 2]);
+    let d = wide(bytes[at + 3]);
+    a + 256 * (b + 256 * (c + 256 * d))
+}
+
+// The number of eight bytes from a place on.
+pub fn load64(bytes: &[u8], at: usize) -> u64
+    requires { ⌜ at + 8 ≤ length (now bytes) ⌝ }
+    ensures { λ r. ⌜ r ≡ number 256 (take 8 (drop at (now (bytes .entry)))) ⌝ }
+{
+    let low = load32(bytes, at);
+    let high = load32(bytes, at + 4);
+    low + 4294967296 * high
+}
+
+// Writes the four lowest bytes of a number to a place.
+pub fn store32(bytes: &mut [u8], at: usize, x: u64)
+    requires { ⌜ at + 4 ≤ length (now bytes) ⌝ }
+    ensures { λ _. ⌜ now (bytes .exit) ≡ placed at (digits 256 4 x) (now (bytes .entry)) ⌝ }
+{
+    bytes[at] = (x % 256) as u8;
+    bytes[at + 1] = (x / 256 % 256) as u8;
+    bytes[at + 2] = (x / 256 / 256 % 256) as u8;
+    bytes[at + 3] = (x / 256 / 256 / 256 % 256) as u8;
+}
+
+// Writes the lowest bytes of a number, as many as there are places, up to eight.
+pub fn store(bytes: &mut [u8], x: u64)
+    requires { ⌜ length (now bytes) ≤ 8 ⌝ }
+    ensures { λ _. ⌜ now (bytes .exit) ≡ digits 256 (length (now (bytes .entry))) x ⌝ }
+{
+    let mut i = 0;
+    while i < bytes.len() {
+        bytes[i] = ((x >> (8 * i)) % 256) as u8;
+        i += 1;
+    }
+}
