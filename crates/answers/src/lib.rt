@@ -18,12 +18,8 @@ pub fn keygen_answer(
 {
     let p = set_params(set);
     let q9 = ask(public_key == p.pk, 9, ask(secret_key == p.sk, 9, 0));
-    let q3 = ask(
-        matrix_seed == 32,
-        3,
-        ask(secret_seed == 32, 3, ask(z == 32, 3, q9)),
-    );
-    ask(0 < p.l, 1, q3)
+    let q3 = ask(secret_seed == 32, 3, ask(z == 32, 3, q9));
+    ask(0 < p.l, 1, ask(matrix_seed == 32, 3, q3))
 }
 
 // Encapsulation: Q1, Q3, Q4, Q9.
@@ -50,12 +46,8 @@ pub fn decaps_answer(set: u32, secret_key: usize, ciphertext: usize, shared_secr
     ensures { λ r. ⌜ r ≡ earliest (decapsQuestions set «secret_key» ciphertext «shared_secret») ⌝ }
 {
     let p = set_params(set);
-    let q9 = ask(shared_secret == 32, 9, 0);
-    ask(
-        0 < p.l,
-        1,
-        ask(secret_key == p.sk, 5, ask(ciphertext == p.ct, 6, q9)),
-    )
+    let q6 = ask(ciphertext == p.ct, 6, ask(shared_secret == 32, 9, 0));
+    ask(0 < p.l, 1, ask(secret_key == p.sk, 5, q6))
 }
 
 // Encryption: Q1, Q3, Q4, Q9.
@@ -78,10 +70,6 @@ pub fn decrypt_answer(set: u32, plain_secret: usize, ciphertext: usize, message:
     ensures { λ r. ⌜ r ≡ earliest (decryptQuestions set «plain_secret» ciphertext message) ⌝ }
 {
     let p = set_params(set);
-    let q9 = ask(message == 32, 9, 0);
-    ask(
-        0 < p.l,
-        1,
-        ask(plain_secret == 416 * p.l, 5, ask(ciphertext == p.ct, 6, q9)),
-    )
+    let q6 = ask(ciphertext == p.ct, 6, ask(message == 32, 9, 0));
+    ask(0 < p.l, 1, ask(plain_secret == 416 * p.l, 5, q6))
 }
