@@ -1,13 +1,13 @@
--- `sha3::last_block` meets its contract: the padding is stored over the zeros behind s, as one byte or as two.
+-- `sponge::last_block` meets its contract: the padding is stored over the zeros behind s, as one byte or as two.
 use mathlib.Core.Path.{_≡_}
 use Prim.Native.Nat.{suc, _+_, _-_}
 use native.Mathlib.Omega.{arith}
 use borrow.Author.Needs.{needs}
 use denote.Ref.{now}
 use lib.ListN.{length}
-use Rattle.sha3.proofs.Laws.{pad-one, pad-more}
-use Rattle.sha3.proofs.last_block.Statement.{statement}
-use Rattle.sha3.proofs.last_block.Tie as tie
+use Rattle.sponge.specs.Laws.Sponge.{pad-one, pad-more}
+use Rattle.sponge.proofs.last_block.Statement.{statement}
+use Rattle.sponge.proofs.last_block.Tie as tie
 
 returns : tie.Need-returns
 returns c =

@@ -1,13 +1,13 @@
--- `sha3::sponge` meets its contract: it squeezes what was absorbed.
+-- `sponge::sponge` meets its contract: it squeezes what was absorbed.
 use mathlib.Core.Path.{ap, _∙_}
 use borrow.Author.Needs.{needs}
 use denote.Ref.{now}
 use lib.ListN.{length}
 use Rattle.lists.specs.Lists.{from}
 use Rattle.keccak.specs.Keccak.{State}
-use Rattle.sha3.specs.Sponge.{sponge, squeezed}
-use Rattle.sha3.proofs.sponge.Statement.{statement}
-use Rattle.sha3.proofs.sponge.Tie as tie
+use Rattle.sponge.specs.Sponge.{sponge, squeezed}
+use Rattle.sponge.proofs.sponge.Statement.{statement}
+use Rattle.sponge.proofs.sponge.Tie as tie
 
 returns : tie.Need-returns
 unfolding sponge

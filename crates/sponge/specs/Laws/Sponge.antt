@@ -1,61 +1,38 @@
--- Laws of lists, of the padding and of the sponge's loops that the proofs cite.
+-- Laws of the sponge: how long its output is, and that each element is a byte; the padding, and the loops that absorb and squeeze.
 use mathlib.Core.Path.{_≡_, refl, ap, ap₂, sym, _∙_}
 use mathlib.Core.List.{List, [], _∷_, _++_, append-assoc}
 use Prim.Native.Nat.{ℕ, zero, suc, _+_, _-_, _*_, _/_, _%_, _<_, _≤_}
-use native.Mathlib.Nat.{zero-add, suc-add, add-zero, add-div-right, div-add-mod'}
+use native.Mathlib.Nat.{add-zero, add-div-right, div-add-mod'}
 use native.Mathlib.Nat.{mul-add-div-right, div-eq-of-lt, mul-add-mod-self-right, mod-eq-of-lt}
 use native.Mathlib.Numerals.{add-one}
 use native.Mathlib.Omega.{arith}
-use borrow.Rule.Slice.PartMut.{putMid, midOf, mid-len}
+use borrow.Rule.Slice.PartMut.{midOf}
 use lib.ListN.{length, getD, take, drop, set, replicate, length-append, length-drop, length-replicate, replicate-append-replicate}
-use lib.Seq.{set-at, set-append-seam, append-snoc, take-suc, length-take-le, take-all, take-append-le, drop-append-le, getD-take}
-use Rattle.lists.specs.Lists.{from}
-use Rattle.lists.specs.Laws.Lists.{length-from, from-at, from-cong}
-use Rattle.lists.specs.Laws.Parts.{put-long, put-next}
-use Rattle.lists.specs.Laws.Fill.{Filled, fill-front}
+use lib.Seq.{set-at, set-append-seam, append-snoc, drop-at, length-take-le, take-all, take-append-le, drop-append-le}
+use Rattle.lists.specs.Numbers.{digit, Below}
+use Rattle.lists.specs.Strings.{placed}
+use Rattle.lists.specs.Laws.Lists.{length-from, from-at}
+use Rattle.lists.specs.Laws.Parts.{mid-part, last-part}
+use Rattle.lists.specs.Laws.Strings.{placed-front}
 use Rattle.keccak.specs.Keccak.{State, lane, keccakF}
-use Rattle.sha3.specs.Sponge.{mix, laneByte, byteAt, padding, padded, absorbed, absorb, later, squeezed}
+use Rattle.sponge.specs.Sponge.{mix, byteAt, padding, padded, absorbed, absorb, later, squeezed, sponge}
 
--- a list by its places, in two parts
-pub from-add : (m k : ℕ) (f : ℕ → ℕ) → from (m + k) f ≡ from m f ++ from k (λ i. f (m + i))
-unfolding from
-from-add zero k f = rw (zero-add k) (from-cong k f (λ i. f (0 + i)) (λ i h. ap f (sym (zero-add i))))
-from-add (suc m) k f =
-    rw (suc-add m k)
-    (ap (λ (l : List ℕ). f 0 ∷ l)
-    (from-add m k (λ i. f (suc i)) ∙ ap (λ (l : List ℕ). from m (λ i. f (suc i)) ++ l) (from-cong k _ _ (λ i h. ap f (sym (suc-add m i))))))
+pub length-sponge : (r d : ℕ) (m : List ℕ) (n : ℕ) → length (sponge r d m n) ≡ n
+unfolding sponge
+length-sponge r d m n = length-from n _
 
--- a list written from the front by parts: y is put behind the first a elements
-pub fill-part :
-    {n a e : ℕ} {s y : List ℕ} {f g : ℕ → ℕ} → a ≤ e → e ≤ n → Filled n s a f → y ≡ from (length (midOf a (e - a) s)) g →
-    ((i : ℕ) → i < e - a → g i ≡ f (a + i)) → Filled n (putMid a (e - a) s y) e f
-fill-part {n} {a} {e} {s} {y} {f} {g} h l w q same =
-    record {
-      size = put-long a e s y h fits long ∙ w .size;
-      within = l;
-      at = λ i hi. sym (getD-take e _ i 0 hi) ∙ ap (λ (t : List ℕ). getD t i 0) front ∙ from-at e f 0 i hi;
-    }
-  where
-    fits : e ≤ length s
-    fits = omega (arith, w .size)
+pub sponge-below : (r d : ℕ) (m : List ℕ) (n : ℕ) → Below 256 (sponge r d m n)
+unfolding sponge byteAt
+sponge-below r d m n k h = rw (from-at n (squeezed r (absorb r d m)) 0 k (rw (length-sponge r d m n) at h)) (omega arith)
 
-    long : length y ≡ length (midOf a (e - a) s)
-    long = ap length q ∙ length-from _ g
-
-    whole : a + (e - a) ≡ e
-    whole = omega arith
-
-    front : take e (putMid a (e - a) s y) ≡ from e f
-    front =
-        put-next a e s y h fits long (from a f) (fill-front w)
-        ∙ ap (λ (t : List ℕ). from a f ++ t) (rw (mid-len a e s fits) at q ∙ from-cong (e - a) g (λ i. f (a + i)) same)
-        ∙ sym (from-add a (e - a) f)
-        ∙ ap (λ (t : ℕ). from t f) whole
-
--- one byte more of s, copied over zeros
-pub copy-more : (s : List ℕ) (i k : ℕ) → i < length s → set (take i s ++ replicate (suc k) 0) i (getD s i 0) ≡ take (i + 1) s ++ replicate k 0
-copy-more s i k h =
-    rw (add-one i, take-suc s i 0 h, append-snoc) (set-at (take i s) 0 (replicate k 0) (getD s i 0) i (length-take-le i s (omega arith)))
+-- a string over zeros
+pub over-zeros : (s : List ℕ) (n : ℕ) → length s ≤ n → placed 0 s (replicate n 0) ≡ s ++ replicate (n - length s) 0
+over-zeros s n h =
+    let k = n - length s in
+    let e : n ≡ length s + k = omega arith in
+    placed-front s (replicate n 0)
+    ∙ ap (λ (z : List ℕ). s ++ drop (length s) z) (ap (λ (i : ℕ). replicate i 0) e ∙ sym (replicate-append-replicate (length s) k 0))
+    ∙ ap (λ (z : List ℕ). s ++ z) (drop-at (replicate (length s) 0) (replicate k 0) (length s) (length-replicate (length s) 0))
 
 -- the padding stored over zeros: one byte, and two or more
 pub pad-one : (s : List ℕ) (d z : ℕ) → set (s ++ replicate (suc z) 0) (length s) (d + 128) ≡ s ++ (padding 1 d ++ replicate z 0)
@@ -140,6 +117,6 @@ module _ (r at : ℕ) (pos : 0 < r) (starts : at % r ≡ 0) where
         (rw (all, length-drop at m, ← y, n, ← append-assoc (drop at m) pad (replicate (200 - r) 0), ← t) (absorb-next (m ++ pad) a e))
 
 -- the next 8 bytes of a state come from one lane
-pub lane-at : (a : State) (k i : ℕ) → i < 8 → laneByte (lane a (k % 5) (k / 5)) i ≡ byteAt a (8 * k + i)
+pub lane-at : (a : State) (k i : ℕ) → i < 8 → digit 256 (lane a (k % 5) (k / 5)) i ≡ byteAt a (8 * k + i)
 unfolding byteAt
-lane-at a k i h = ap₂ (λ (x y : ℕ). laneByte (lane a (x % 5) (x / 5)) y) (omega arith) (omega arith)
+lane-at a k i h = ap₂ (λ (x y : ℕ). digit 256 (lane a (x % 5) (x / 5)) y) (omega arith) (omega arith)

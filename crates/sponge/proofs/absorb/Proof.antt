@@ -1,4 +1,4 @@
--- `sha3::absorb` meets its contract. The loop's invariant: a is the state after the whole blocks before place at.
+-- `sponge::absorb` meets its contract. The loop's invariant: a is the state after the whole blocks before place at.
 use mathlib.Core.Path.{_≡_, ap, _∙_}
 use Prim.Native.Nat.{_≤_, _-_, _/_, _%_}
 use native.Mathlib.Nat.{zero-mod, zero-div, add-mod-right}
@@ -7,10 +7,10 @@ use borrow.Author.Needs.{needs}
 use denote.Ref.{now}
 use lib.ListN.{length, length-take, length-drop}
 use Rattle.keccak.specs.Keccak.{keccakF}
-use Rattle.sha3.specs.Sponge.{padded, absorbed, mix}
-use Rattle.sha3.proofs.Laws.{absorb-whole, absorb-end}
-use Rattle.sha3.proofs.absorb.Statement.{statement}
-use Rattle.sha3.proofs.absorb.Tie as tie
+use Rattle.sponge.specs.Sponge.{padded, absorbed, mix}
+use Rattle.sponge.specs.Laws.Sponge.{absorb-whole, absorb-end}
+use Rattle.sponge.proofs.absorb.Statement.{statement}
+use Rattle.sponge.proofs.absorb.Tie as tie
 
 abbrev Inv-loop : tie.InvT-loop
 Inv-loop m r d a₀ at₀ a at = (at ≤ length m) × (at % r ≡ 0) × (a ≡ absorbed r (padded r d m) (at / r))

@@ -1,4 +1,4 @@
--- `sha3::squeeze` meets its contract. The loop's invariant: the bytes before place at are written, and while some are left to write, a block starts there
+-- `sponge::squeeze` meets its contract. The loop's invariant: the bytes before place at are written, and while some are left to write, a block starts there
 -- and the next permutation of a gives its state.
 use mathlib.Core.Path.{_≡_, refl, ap, _∙_}
 use Prim.Native.Nat.{_<_, _+_, _-_, _/_, _%_}
@@ -7,12 +7,12 @@ use native.Mathlib.Numerals.{add-one}
 use native.Mathlib.Omega.{arith}
 use borrow.Author.Needs.{needs}
 use lib.ListN.{length, length-take, length-drop}
-use Rattle.lists.specs.Laws.Fill.{Filled, fill-none, fill-all}
+use Rattle.lists.specs.Laws.Fill.{Filled, fill-none, fill-part, fill-all}
 use Rattle.keccak.specs.Keccak.{State, keccakF}
-use Rattle.sha3.specs.Sponge.{byteAt, later, squeezed}
-use Rattle.sha3.proofs.Laws.{fill-part, squeeze-at}
-use Rattle.sha3.proofs.squeeze.Statement.{statement}
-use Rattle.sha3.proofs.squeeze.Tie as tie
+use Rattle.sponge.specs.Sponge.{byteAt, later, squeezed}
+use Rattle.sponge.specs.Laws.Sponge.{squeeze-at}
+use Rattle.sponge.proofs.squeeze.Statement.{statement}
+use Rattle.sponge.proofs.squeeze.Tie as tie
 
 abbrev Inv-loop : tie.InvT-loop
 Inv-loop r output₀ a₀ at₀ output a at =

@@ -1,7 +1,7 @@
--- `sha3::mix_sheet` meets its contract: each lane is what its call ensures.
+-- `sponge::mix_sheet` meets its contract: each lane is what its call ensures.
 use borrow.Author.Needs.{needs}
-use Rattle.sha3.proofs.mix_sheet.Statement.{statement}
-use Rattle.sha3.proofs.mix_sheet.Tie as tie
+use Rattle.sponge.proofs.mix_sheet.Statement.{statement}
+use Rattle.sponge.proofs.mix_sheet.Tie as tie
 
 returns : tie.Need-returns
 returns c = cc
