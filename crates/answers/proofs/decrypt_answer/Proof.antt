@@ -13,8 +13,8 @@ decrypt-answer-spec =
     (tie.spec
     (λ c κs. search needs)
     (λ c κs. search needs)
-    (λ c. omega (arith, few-rows))
     (λ c κs. search needs)
+    (λ c. omega (arith, few-rows))
     (λ c κs. search needs)
     (λ c κs. search needs)
     (λ c. cc))

@@ -1,6 +1,8 @@
 -- `pke::decrypt` meets its contract: an answer of 0 gives `decrypt_with` what it asks, and any other leaves the output alone.
+use native.Mathlib.Omega.{arith}
 use borrow.Author.Needs.{needs}
 use Rattle.questions.specs.Laws.Answers.{wrote-none}
+use Rattle.sets.specs.Laws.Rows.{few-rows}
 use Rattle.answers.specs.Laws.Rooms.{decrypt-room}
 use Rattle.pke.specs.Laws.Pke.{decrypt-done}
 use Rattle.pke.proofs.decrypt.Statement.{statement}
@@ -13,11 +15,10 @@ decrypt-spec =
     (λ c κs. search needs)
     (λ c. search wrote-none)
     (λ c κs. search needs)
-    (λ c. ?)
+    (λ c. omega (arith, few-rows))
     (λ c. search needs)
     (λ c. search needs)
-    (λ c. search needs)
-    (λ c κs. ?)
-    (λ c. search needs)
+    (λ c. omega (arith, few-rows))
+    (λ c κs. record { room = search decrypt-room; secretLong = search needs })
     (λ c. search needs)
     (λ c. search decrypt-done))

@@ -1,6 +1,8 @@
 -- `pke::encrypt` meets its contract: an answer of 0 gives `encrypt_with` what it asks, and any other leaves the output alone.
+use native.Mathlib.Omega.{arith}
 use borrow.Author.Needs.{needs}
 use Rattle.questions.specs.Laws.Answers.{wrote-none}
+use Rattle.sets.specs.Laws.Rows.{few-rows}
 use Rattle.answers.specs.Laws.Rooms.{encrypt-room}
 use Rattle.pke.specs.Laws.Pke.{encrypt-done}
 use Rattle.pke.proofs.encrypt.Statement.{statement}
@@ -13,11 +15,10 @@ encrypt-spec =
     (λ c κs. search needs)
     (λ c. search wrote-none)
     (λ c κs. search needs)
-    (λ c. ?)
+    (λ c. omega (arith, few-rows))
     (λ c. search needs)
     (λ c. search needs)
-    (λ c. search needs)
-    (λ c κs. ?)
-    (λ c. search needs)
+    (λ c. omega (arith, few-rows))
+    (λ c κs. record { room = search encrypt-room; secretLong = search needs })
     (λ c. search needs)
     (λ c. search encrypt-done))

@@ -1,4 +1,5 @@
 -- `pke::encrypt_with` meets its contract: the two parts of the ciphertext are those of the definition.
+use Prim.Native.Nat.{_*_}
 use mathlib.Core.Path.{_∙_}
 use native.Mathlib.Omega.{arith}
 use borrow.Author.Needs.{needs}
@@ -17,11 +18,10 @@ returns c =
     let room = start .pre .room in
     let x = after-vector .vector-into in
     let y = after-data .data-into in
-    written-all
-    (written-part (y .last .1 .1 .1 .1 .0)
-    (written-part (x .last .1 .1 .1 .1 .0) (written-none (a .ciphertext .now)) (omega arith) (omega (arith, room .ctLong)) (x .kept .1 .1 .1 .1 .0))
-    (omega arith) (omega (arith, room .ctLong)) (y .kept .1 .1 .1 .1 .0))
-    (omega (arith, room .ctLong))
+    let n = 320 * a .p .l in
+    let first = written-part {e = n} (x .last .1 .1 .1 .1 .0) (written-none (a .ciphertext .now)) (omega arith) (omega (arith, room .ctLong)) (x .kept .1 .1 .1 .1 .0) in
+    let both = written-part {a = n} {e = a .p .ct} (y .last .1 .1 .1 .1 .0) first (omega arith) (omega (arith, room .ctLong)) (y .kept .1 .1 .1 .1 .0) in
+    written-all both (omega (arith, room .ctLong))
     ∙ encrypt-steps _ _ _ _ (search first-part) (search (last-part, room .pkLong)) (after-secret .secret-into .ensures) (x .ensures)
     (y .ensures)
 
@@ -44,7 +44,7 @@ encrypt-with-spec =
     (λ c. search needs)
     (λ c. search needs)
     (λ c. search needs)
-    (λ c κs. search needs)
+    (λ c κs. record { row = search needs; vectorLong = search needs; secretLong = search needs; messageLong = search needs; outLong = search needs })
     (λ c. search needs)
     (λ c. search needs)
     returns)
