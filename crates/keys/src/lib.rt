@@ -1,4 +1,5 @@
 // Making keys, their layout, and the public key inside a secret key.
+ghost use mathlib.Core.Bool.{true};
 ghost use mathlib.Core.List.{_++_};
 ghost use mathlib.Core.Path.{_≡_};
 ghost use lib.ListN.{length};
