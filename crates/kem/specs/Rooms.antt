@@ -1,9 +1,14 @@
--- What the functions ask of lengths, a `Space` with those of lent places; and what the work of encapsulation gives.
-use Prim.Native.Nat.{ℕ, _*_}
-use mathlib.Core.List.{List}
+-- What the functions ask of lengths, a `Space` with those of lent places; and what their work gives.
+use Prim.Native.Nat.{ℕ, _+_, _*_}
+use mathlib.Core.List.{List, _++_}
 use mathlib.Core.Path.{_≡_}
+use lib.ListN.{drop}
 use Rattle.sets.specs.declared.Params.{Params}
-use Rattle.answers.specs.Rooms.{EncapsRoom, DecapsRoom}
+use Rattle.sets.specs.Rooms.{Row}
+use Rattle.answers.specs.Rooms.{EncapsRoom}
+use Rattle.sha3.specs.Hashes.{sha3-512}
+use Rattle.pke.specs.Pke.{encrypted, decrypted}
+use Rattle.keys.specs.Keys.{plainPart, keyPart, hashPart}
 use Rattle.kem.specs.Kem.{encapsCiphertext, encapsSecret}
 
 pub record EncapsSpace (p : Params) (pk secret ct ss : ℕ) : Type 0 where
@@ -14,7 +19,18 @@ pub record Encapsulation (p : Params) (pk seed ct' ss' : List ℕ) : Type 0 wher
   pub ciphertext : ct' ≡ encapsCiphertext p pk seed
   pub sharedSecret : ss' ≡ encapsSecret p pk seed
 
-pub record DecapsSpace (p : Params) (sk ct secret again ss : ℕ) : Type 0 where
-  pub room : DecapsRoom p sk ct ss
+-- the secret key of its set's length, a ciphertext, and the places for a secret and for the ciphertext made again
+pub record AgainSpace (p : Params) (sk ct secret again : ℕ) : Type 0 where
+  pub row : Row p
+  pub skLong : sk ≡ 416 * p .l + (p .pk + 64)
+  pub ctLong : ct ≡ p .ct
   pub secretLong : secret ≡ 256 * p .l
   pub againLong : again ≡ p .ct
+
+pub record MadeAgain (p : Params) (sk ct kr again' : List ℕ) : Type 0 where
+  pub key : kr ≡ sha3-512 (decrypted p (plainPart p sk) ct ++ hashPart p sk)
+  pub again : again' ≡ encrypted p (keyPart p sk) (decrypted p (plainPart p sk) ct) (drop 32 kr)
+
+pub record DecapsSpace (p : Params) (sk ct secret again ss : ℕ) : Type 0 where
+  pub space : AgainSpace p sk ct secret again
+  pub ssLong : ss ≡ 32

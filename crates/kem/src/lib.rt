@@ -6,7 +6,7 @@ ghost use lib.ListN.{length};
 ghost use Rattle.sha3.specs.Hashes.{sha3-256, sha3-512};
 ghost use Rattle.kem.specs.Kem.{sharedSecret, rejectedSecret, decapsSecret};
 ghost use Rattle.kem.specs.Promises.{Encapsulated, Decapsulated};
-ghost use Rattle.kem.specs.Rooms.{EncapsSpace, Encapsulation, DecapsSpace};
+ghost use Rattle.kem.specs.Rooms.{EncapsSpace, Encapsulation, AgainSpace, MadeAgain, DecapsSpace};
 use sets::Params;
 use sets::set_params;
 
@@ -71,6 +71,27 @@ fn encaps_with(
     lists::copy_at(&shared, output, 0);
 }
 
+// Decrypts a ciphertext and encrypts the message again, with the stored hash and public key: the ciphertext made again, and k and r.
+fn again_with(
+    p: Params,
+    secret_key: &[u8],
+    ciphertext: &[u8],
+    secret: &mut [u16],
+    again: &mut [u8],
+) -> [u8; 64]
+    requires { ⌜ AgainSpace p (length (now «secret_key»)) (length (now ciphertext)) (length (now secret)) (length (now again)) ⌝ }
+    ensures { λ r. ⌜ MadeAgain p (now («secret_key» .entry)) (now (ciphertext .entry)) r (now (again .exit)) ⌝ }
+{
+    let a = 416 * p.l;
+    let b = a + p.pk;
+    let c = b + 32;
+    let mut message = [0u8; 32];
+    pke::decrypt_with(p, &secret_key[0..a], ciphertext, secret, &mut message);
+    let kr = key_and_coins(&message, &secret_key[b..c]);
+    pke::encrypt_with(p, &secret_key[a..b], &message, &kr[32..64], secret, again);
+    kr
+}
+
 // Decapsulates at arguments of the set's lengths; the caller lends the places for the secret and for the ciphertext made again.
 fn decaps_with(
     p: Params,
@@ -83,19 +104,13 @@ fn decaps_with(
     requires { ⌜ DecapsSpace p (length (now «secret_key»)) (length (now ciphertext)) (length (now secret)) (length (now again)) (length (now output)) ⌝ }
     ensures { λ _. ⌜ now (output .exit) ≡ decapsSecret p (now («secret_key» .entry)) (now (ciphertext .entry)) ⌝ }
 {
-    let a = 416 * p.l;
-    let b = a + p.pk;
-    let c = b + 32;
-    let d = c + 32;
-    let mut message = [0u8; 32];
-    pke::decrypt_with(p, &secret_key[0..a], ciphertext, secret, &mut message);
-    let kr = key_and_coins(&message, &secret_key[b..c]);
-    pke::encrypt_with(p, &secret_key[a..b], &message, &kr[32..64], secret, again);
+    let kr = again_with(p, secret_key, ciphertext, secret, again);
+    let z = 416 * p.l + p.pk + 32;
     let chosen = chosen_secret(
         lists::same(again, ciphertext),
         &kr[0..32],
         ciphertext,
-        &secret_key[c..d],
+        &secret_key[z..],
     );
     lists::copy_at(&chosen, output, 0);
 }

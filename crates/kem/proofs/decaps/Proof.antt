@@ -1,7 +1,9 @@
--- `kem::decaps` meets its contract: an answer of 0 gives `decaps_into` what it asks, and any other leaves the output alone.
+-- `kem::decaps` meets its contract: an answer of 0 gives `decaps_with` what it asks, and any other leaves the output alone.
+use native.Mathlib.Omega.{arith}
 use borrow.Author.Needs.{needs}
-use Rattle.questions.specs.Laws.Answers.{refused}
-use Rattle.kem.specs.Laws.{decaps-room}
+use Rattle.questions.specs.Laws.Answers.{wrote-none}
+use Rattle.sets.specs.Laws.Rows.{few-rows, few-bytes}
+use Rattle.kem.specs.Laws.Kem.{again-space, decaps-done}
 use Rattle.kem.proofs.decaps.Statement.{statement}
 use Rattle.kem.proofs.decaps.Tie as tie
 
@@ -10,8 +12,15 @@ decaps-spec =
     tie.close
     (tie.spec
     (λ c κs. search needs)
-    (λ c. search refused)
+    (λ c. search wrote-none)
     (λ c κs. search needs)
-    (λ c κs. search decaps-room)
+    (λ c. omega (arith, few-rows))
     (λ c. search needs)
-    (λ c. record { answer = cc; sharedSecret = cc }))
+    (λ c. search needs)
+    (λ c. omega (arith, few-rows))
+    (λ c. search needs)
+    (λ c. search needs)
+    (λ c. omega (arith, few-bytes))
+    (λ c κs. search again-space)
+    (λ c. search needs)
+    (λ c. search decaps-done))

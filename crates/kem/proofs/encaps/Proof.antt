@@ -1,7 +1,10 @@
--- `kem::encaps` meets its contract: an answer of 0 gives `encaps_into` what it asks, and any other leaves the two outputs alone.
+-- `kem::encaps` meets its contract: an answer of 0 gives `encaps_with` what it asks, and any other leaves the two outputs alone.
+use native.Mathlib.Omega.{arith}
 use borrow.Author.Needs.{needs}
 use Rattle.questions.specs.Laws.Answers.{refused}
-use Rattle.kem.specs.Laws.{encaps-room}
+use Rattle.sets.specs.Laws.Rows.{few-rows}
+use Rattle.answers.specs.Laws.Rooms.{encaps-room}
+use Rattle.kem.specs.Laws.Kem.{encaps-done}
 use Rattle.kem.proofs.encaps.Statement.{statement}
 use Rattle.kem.proofs.encaps.Tie as tie
 
@@ -12,7 +15,11 @@ encaps-spec =
     (λ c κs. search needs)
     (λ c. search refused)
     (λ c κs. search needs)
-    (λ c κs. search encaps-room)
+    (λ c. omega (arith, few-rows))
     (λ c. search needs)
     (λ c. search needs)
-    (λ c. record { answer = cc; ciphertext = cc; sharedSecret = cc }))
+    (λ c. omega (arith, few-rows))
+    (λ c κs. record { room = search encaps-room; secretLong = search needs })
+    (λ c. search needs)
+    (λ c. search needs)
+    (λ c. search encaps-done))

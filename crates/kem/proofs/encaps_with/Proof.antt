@@ -1,29 +1,28 @@
--- `kem::encaps_into` meets its contract: the steps of the definition, one after another.
+-- `kem::encaps_with` meets its contract: the steps of the definition, one after another.
 use mathlib.Core.Path.{refl}
 use borrow.Author.Needs.{needs}
-use Rattle.kem.specs.Laws.{coins-part, encaps-steps}
-use Rattle.kem.proofs.encaps_into.Statement.{statement}
-use Rattle.kem.proofs.encaps_into.Tie as tie
+use Rattle.kem.specs.Laws.Kem.{coins-part, encaps-steps}
+use Rattle.kem.proofs.encaps_with.Statement.{statement}
+use Rattle.kem.proofs.encaps_with.Tie as tie
 
 returns : tie.Need-returns
 returns c =
     let last = c .before .before in
-    let encrypted = last .before .before .before .before .before .before .before in
-    let kr = encrypted .before .before .before .before .before in
-    let hash = kr .before .before .before .before in
-    let message = hash .before .before .before in
-    encaps-steps _ _ _ (message .sha3-256-into .ensures) (hash .sha3-256-into2 .ensures) (kr .key-and-coins .ensures)
-    (coins-part _ (kr .key-and-coins .ensures)) refl (encrypted .encrypt-into .ensures) (last .put-shared-secret .ensures)
+    let shared = last .before .before .before in
+    let encrypted = shared .before .before .before .before .before .before .before .before in
+    let kr = encrypted .before .before .before .before .before .before in
+    let hash = kr .before .before .before in
+    let start = hash .before .before .before .before .before .before .before in
+    encaps-steps _ _ _ _ (start .pre .room .ssLong) (hash .before .hash256 .ensures) (hash .hash2562 .ensures) (kr .key-and-coins .ensures)
+    (coins-part _ (kr .key-and-coins .ensures)) refl (encrypted .encrypt-with .ensures) (shared .shared-secret .ensures)
+    (last .copy-at .ensures)
 
-pub encaps-into-spec : {M : Type 1} → statement M
-encaps-into-spec =
+pub encaps-with-spec : {M : Type 1} → statement M
+encaps-with-spec =
     tie.close
     (tie.spec
-    (λ c. search needs)
     (λ c κs. search needs)
-    (λ c. search needs)
     (λ c κs. search needs)
-    (λ c. search needs)
     (λ c. search needs)
     (λ c κs. search needs)
     (λ c. search needs)
@@ -35,6 +34,9 @@ encaps-into-spec =
     (λ c. search needs)
     (λ c. search needs)
     (λ c κs. search needs)
+    (λ c. search needs)
+    (λ c κs. search needs)
+    (λ c. search needs)
     (λ c. search needs)
     (λ c. search needs)
     returns)

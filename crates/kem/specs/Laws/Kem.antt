@@ -1,6 +1,6 @@
 -- Laws of the key encapsulation: the steps of each function, which together are its definition, and what a call then promises.
-use Prim.Native.Nat.{ℕ}
-use mathlib.Core.Bool.{Bool, cond}
+use Prim.Native.Nat.{ℕ, _*_}
+use mathlib.Core.Bool.{Bool, true, false, cond}
 use mathlib.Core.List.{List, _++_}
 use mathlib.Core.Path.{_≡_, sym, ap, _∙_}
 use lib.ListN.{length, take, drop}
@@ -11,21 +11,26 @@ use Rattle.questions.specs.Answers.{earliest}
 use Rattle.sets.specs.declared.Params.{Params}
 use Rattle.sets.specs.Sets.{paramsOf}
 use Rattle.answers.specs.Questions.{encapsQuestions, decapsQuestions}
+use Rattle.answers.specs.Laws.Rooms.{decaps-room}
 use Rattle.sponge.specs.Laws.Sponge.{length-sponge}
 use Rattle.sha3.specs.Hashes.{sha3-256, sha3-512}
 use Rattle.pke.specs.Pke.{encrypted, decrypted}
 use Rattle.keys.specs.Keys.{plainPart, keyPart, hashPart, zPart}
 use Rattle.kem.specs.Kem.{sharedSecret, rejectedSecret, encapsCiphertext, encapsSecret, decapsSecret}
 use Rattle.kem.specs.Promises.{Encapsulated, Decapsulated}
-use Rattle.kem.specs.Rooms.{Encapsulation}
+use Rattle.kem.specs.Rooms.{Encapsulation, MadeAgain, DecapsSpace}
 
 -- r, the part from 32 to 64
 pub coins-part : (input : List ℕ) {kr : List ℕ} → kr ≡ sha3-512 input → take 32 (drop 32 kr) ≡ drop 32 kr
 coins-part input {kr} e = last-part 32 64 kr (ap length e ∙ length-sponge 72 6 input 64)
 
--- a hash written over the whole of an output
-written-hash : (input out : List ℕ) {h out' : List ℕ} → length out ≡ 32 → h ≡ sha3-256 input → out' ≡ placed 0 h out → out' ≡ sha3-256 input
-written-hash input out l e w = w ∙ rw e (placed-whole (sha3-256 input) out (l ∙ sym (length-sponge 136 6 input 32)))
+-- a string of 32 bytes written over the whole of an output
+over : (h out : List ℕ) {out' : List ℕ} → length out ≡ 32 → length h ≡ 32 → out' ≡ placed 0 h out → out' ≡ h
+over h out l k w = w ∙ placed-whole h out (l ∙ sym k)
+
+length-chosen : (b : Bool) (x y : List ℕ) → length (cond b (sha3-256 x) (sha3-256 y)) ≡ 32
+length-chosen true x y = length-sponge 136 6 x 32
+length-chosen false x y = length-sponge 136 6 y 32
 
 pub choose : {b equal : Bool} (x y : List ℕ) {out : List ℕ} → equal ≡ b → out ≡ cond b x y → out ≡ cond equal x y
 choose x y e h = rw e h
@@ -35,17 +40,26 @@ pub encaps-steps :
     kr ≡ sha3-512 (m ++ h) → coins ≡ drop 32 kr → k ≡ take 32 kr → ct ≡ encrypted p pk m coins → s ≡ sharedSecret k ct →
     ss' ≡ placed 0 s ss → Encapsulation p pk seed ct ss'
 unfolding encapsCiphertext encapsSecret
-encaps-steps p pk seed ss {k = k} {ct = ct} l em eh er ec ek et es ew =
+encaps-steps p pk seed ss {ct = ct} l em eh er ec ek et es ew =
     let done : ct ≡ encapsCiphertext p pk seed = et ∙ rw (ec, er, em, eh) in
-    record { ciphertext = done; sharedSecret = written-hash (k ++ sha3-256 ct) ss l es ew ∙ rw (done, ek, er, em, eh) }
+    record {
+      ciphertext = done;
+      sharedSecret = over _ ss l (ap length es ∙ length-sponge 136 6 _ 32) ew ∙ es ∙ rw (done, ek, er, em, eh);
+    }
+
+pub again-steps :
+    (p : Params) (sk ct : List ℕ) {plain key hash m kr coins again : List ℕ} → plain ≡ plainPart p sk → key ≡ keyPart p sk →
+    hash ≡ hashPart p sk → m ≡ decrypted p plain ct → kr ≡ sha3-512 (m ++ hash) → coins ≡ drop 32 kr → again ≡ encrypted p key m coins →
+    MadeAgain p sk ct kr again
+again-steps p sk ct ep ey eh em er ec ea = record { key = er ∙ rw (em, ep, eh); again = ea ∙ rw (ec, em, ep, ey) }
 
 pub decaps-steps :
-    (p : Params) (sk ct ss : List ℕ) {equal : Bool} {plain key hash z m kr coins k again s ss' : List ℕ} → length ss ≡ 32 →
-    plain ≡ plainPart p sk → key ≡ keyPart p sk → hash ≡ hashPart p sk → z ≡ zPart p sk → m ≡ decrypted p plain ct →
-    kr ≡ sha3-512 (m ++ hash) → coins ≡ drop 32 kr → k ≡ take 32 kr → again ≡ encrypted p key m coins → equal ≡ same again ct →
-    s ≡ cond equal (sharedSecret k ct) (rejectedSecret k z) → ss' ≡ placed 0 s ss → ss' ≡ decapsSecret p sk ct
+    (p : Params) (sk ct ss : List ℕ) {equal : Bool} {z kr k again s ss' : List ℕ} → length ss ≡ 32 → MadeAgain p sk ct kr again →
+    z ≡ zPart p sk → k ≡ take 32 kr → equal ≡ same again ct → s ≡ cond equal (sharedSecret k ct) (rejectedSecret k z) →
+    ss' ≡ placed 0 s ss → ss' ≡ decapsSecret p sk ct
 unfolding decapsSecret
-decaps-steps p sk ct ss l ep ey eh ez em er ec ek ea eq es ew = ?
+decaps-steps p sk ct ss {equal} l made ez ek eq es ew =
+    over _ ss l (ap length es ∙ length-chosen equal _ _) ew ∙ rw (es, eq, made .again, ek, made .key, ez)
 
 -- with the work done an answer of 0 is what the call promises
 module _ (set : ℕ) {r : ℕ} {p : Params} (is : p ≡ paramsOf set) (z : r ≡ 0) where
@@ -54,6 +68,17 @@ module _ (set : ℕ) {r : ℕ} {p : Params} (is : p ≡ paramsOf set) (z : r ≡
       Encapsulation p pk seed ct' ss' → Encapsulated set pk seed ct ss 0 ct' ss'
   encaps-done pk seed ct ss a e =
       record { answers = sym z ∙ a; ciphertext = rw is at (e .ciphertext); sharedSecret = rw is at (e .sharedSecret) }
+
+  -- the work of decapsulation has the lengths that it asks
+  pub again-space :
+      (sk ct ss : List ℕ) {secret again : ℕ} → r ≡ earliest (decapsQuestions set (length sk) (length ct) (length ss)) → secret ≡ 256 * p .l →
+      again ≡ p .ct → DecapsSpace p (length sk) (length ct) secret again (length ss)
+  again-space sk ct ss a s n =
+      let room = decaps-room set is z (length sk) (length ct) (length ss) a in
+      record {
+        space = record { row = room .row; skLong = room .skLong ∙ room .row .sums .skIs; ctLong = room .ctLong; secretLong = s; againLong = n };
+        ssLong = room .ssLong;
+      }
 
   pub decaps-done :
       (sk ct ss : List ℕ) {ss' : List ℕ} → r ≡ earliest (decapsQuestions set (length sk) (length ct) (length ss)) →

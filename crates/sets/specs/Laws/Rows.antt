@@ -40,5 +40,8 @@ row = each-row Row (search needs) (search needs) (search needs)
 pub few-rows : (set : ℕ) {p : Params} → p ≡ paramsOf set → p .l ≤ 4
 few-rows set is = rw is (every-row (λ p. p .l ≤ 4) (omega arith) (omega arith) (omega arith) (omega arith) set)
 
+pub few-bytes : (set : ℕ) {p : Params} → p ≡ paramsOf set → p .ct ≤ 1472
+few-bytes set is = rw is (every-row (λ p. p .ct ≤ 1472) (omega arith) (omega arith) (omega arith) (omega arith) set)
+
 pub data-bound : (set : ℕ) → 2 * paramsOf set .t ≡ 1024 / paramsOf set .g
 data-bound = every-row (λ p. 2 * p .t ≡ 1024 / p .g) refl refl refl refl

@@ -1,0 +1,51 @@
+-- `kem::again_with` meets its contract: the steps of the definition, one after another, on the parts of the secret key.
+use borrow.Author.Needs.{needs}
+use Rattle.lists.specs.Laws.Parts.{first-part, mid-part}
+use Rattle.kem.specs.Laws.Kem.{coins-part, again-steps}
+use Rattle.kem.proofs.again_with.Statement.{statement}
+use Rattle.kem.proofs.again_with.Tie as tie
+
+encrypt-with-requires : tie.Need-encrypt-with-requires
+encrypt-with-requires c κs =
+    let message = c .before .before .before .before .before .before .before .before .before .before .before .before in
+    let start = message .before .before .before .before .before .before .before .before .before .before in
+    record {
+      room = record { row = start .pre .row; pkLong = search needs; messageLong = search needs; ctLong = start .pre .againLong };
+      secretLong = search needs;
+    }
+
+returns : tie.Need-returns
+returns c =
+    let again = c .before .before .before .before in
+    let kr = again .before .before .before .before .before .before .before in
+    let message = kr .before .before .before .before .before .before in
+    again-steps _ _ _ (search first-part) (search mid-part) (search mid-part) (message .decrypt-with .ensures) (kr .key-and-coins .ensures)
+    (coins-part _ (kr .key-and-coins .ensures)) (again .encrypt-with .ensures)
+
+pub again-with-spec : {M : Type 1} → statement M
+again-with-spec =
+    tie.close
+    (tie.spec
+    (λ c. search needs)
+    (λ c. search needs)
+    (λ c. search needs)
+    (λ c. search needs)
+    (λ c. search needs)
+    (λ c. search needs)
+    (λ c. search needs)
+    (λ c κs. search needs)
+    (λ c. search needs)
+    (λ c. search needs)
+    (λ c. search needs)
+    (λ c κs. search needs)
+    (λ c. search needs)
+    (λ c. search needs)
+    (λ c. search needs)
+    (λ c. search needs)
+    (λ c. search needs)
+    (λ c. search needs)
+    (λ c. search needs)
+    encrypt-with-requires
+    (λ c. search needs)
+    (λ c. search needs)
+    returns)
