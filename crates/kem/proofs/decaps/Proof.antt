@@ -3,9 +3,15 @@ use native.Mathlib.Omega.{arith}
 use borrow.Author.Needs.{needs}
 use Rattle.questions.specs.Laws.Answers.{wrote-none}
 use Rattle.sets.specs.Laws.Rows.{few-rows, few-bytes}
-use Rattle.kem.specs.Laws.Kem.{again-space, decaps-done}
+use Rattle.kem.specs.Laws.Kem.{decaps-space, decaps-done}
 use Rattle.kem.proofs.decaps.Statement.{statement}
 use Rattle.kem.proofs.decaps.Tie as tie
+
+decaps-with-requires : tie.Need-decaps-with-requires
+decaps-with-requires c κs =
+    let params = c .before .before .before .before in
+    decaps-space _ (params .set-params .ensures) (params .before .if1 .left) _ _ _ (params .before .before .decaps-answer .ensures)
+    (search needs) (search needs)
 
 pub decaps-spec : {M : Type 1} → statement M
 decaps-spec =
@@ -21,6 +27,6 @@ decaps-spec =
     (λ c. search needs)
     (λ c. search needs)
     (λ c. omega (arith, few-bytes))
-    (λ c κs. search again-space)
+    decaps-with-requires
     (λ c. search needs)
     (λ c. search decaps-done))

@@ -1,4 +1,5 @@
 -- `kem::decaps_with` meets its contract: the comparison chooses between the two secrets, and the chosen one is written.
+use Prim.Native.Nat.{_+_, _*_}
 use mathlib.Core.Path.{refl}
 use borrow.Author.Needs.{needs}
 use Rattle.lists.specs.Laws.Parts.{last-part}
@@ -13,7 +14,9 @@ returns c =
     let compared = chosen .before .before .before .before in
     let again = compared .before .before .before .before .before .before .before .before in
     let start = again .before .before .before .before .before .before .before .before in
-    decaps-steps _ _ _ _ (start .pre .ssLong) (again .again-with .ensures) (last-part _ _ _ refl) refl (compared .same .ensures)
+    let a = start .args in
+    decaps-steps _ _ _ _ (start .pre .ssLong) (again .again-with .ensures)
+    (last-part (416 * a .p .l + a .p .pk + 32) _ (a .«secret-key» .now) refl) refl (compared .same .ensures)
     (chosen .chosen-secret .ensures) (last .copy-at .ensures)
 
 pub decaps-with-spec : {M : Type 1} → statement M

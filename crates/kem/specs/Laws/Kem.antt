@@ -70,11 +70,11 @@ module _ (set : ℕ) {r : ℕ} {p : Params} (is : p ≡ paramsOf set) (z : r ≡
       record { answers = sym z ∙ a; ciphertext = rw is at (e .ciphertext); sharedSecret = rw is at (e .sharedSecret) }
 
   -- the work of decapsulation has the lengths that it asks
-  pub again-space :
-      (sk ct ss : List ℕ) {secret again : ℕ} → r ≡ earliest (decapsQuestions set (length sk) (length ct) (length ss)) → secret ≡ 256 * p .l →
-      again ≡ p .ct → DecapsSpace p (length sk) (length ct) secret again (length ss)
-  again-space sk ct ss a s n =
-      let room = decaps-room set is z (length sk) (length ct) (length ss) a in
+  pub decaps-space :
+      (sk ct ss : ℕ) {secret again : ℕ} → r ≡ earliest (decapsQuestions set sk ct ss) → secret ≡ 256 * p .l → again ≡ p .ct →
+      DecapsSpace p sk ct secret again ss
+  decaps-space sk ct ss a s n =
+      let room = decaps-room set is z sk ct ss a in
       record {
         space = record { row = room .row; skLong = room .skLong ∙ room .row .sums .skIs; ctLong = room .ctLong; secretLong = s; againLong = n };
         ssLong = room .ssLong;
