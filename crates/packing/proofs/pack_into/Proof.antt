@@ -76,7 +76,9 @@ loop-again c =
       within = search needs;
       room = search needs;
       fours = search needs;
-      cut = write _ 8 _ _ _ _ _ _ (more (c .before .before .before .before .before)) 4 32 refl (omega arith) f (s .kept .0) (rw (s .ensures) (stored _ _ _ f));
+      cut =
+          write _ 8 _ _ _ _ _ _ (more (c .before .before .before .before .before)) 4 32 refl (omega arith) f (s .kept .0)
+          (rw (s .ensures) (stored _ _ _ f));
     }
 
 loop-again-2 : tie.Need-loop-again-2 Inv-loop μ-loop

@@ -34,7 +34,8 @@ four c =
 ready : (c : tie.Joined1 Inv-loop μ-loop) →
     let t = c .before .before in
     let s = t .before .before .before .args in
-    Turn (s .width) (s .bytes .now) (s .coefficients .now) (t .loop .coefficients) (c .if1 .acc) (c .if1 .held) (c .if1 .i) (t .loop .j) × (s .width ≤ c .if1 .held)
+    Turn (s .width) (s .bytes .now) (s .coefficients .now) (t .loop .coefficients) (c .if1 .acc) (c .if1 .held) (c .if1 .i) (t .loop .j)
+    × (s .width ≤ c .if1 .held)
 ready c =
     let t = c .before .before .loop in
     ⊎-elim
