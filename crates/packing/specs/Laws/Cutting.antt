@@ -22,7 +22,7 @@ pub record Cutting (a b : ℕ) (src out : List ℕ) (acc held i j : ℕ) : Type 
       digits (2 ^ b) (length out) (number (2 ^ a) src) ≡
       take j out ++ digits (2 ^ b) (length out - j) (acc + 2 ^ held * number (2 ^ a) (drop i src))
 
-module _ (a b : ℕ) (src out : List ℕ) where
+module _ {a b : ℕ} {src out : List ℕ} where
   pub start : a * length src ≡ b * length out → Cutting a b src out 0 0 0 0
   start e = record {
     fills = e;
@@ -31,7 +31,7 @@ module _ (a b : ℕ) (src out : List ℕ) where
     left = simp (one-mul, zero-add) (ap (λ (n : ℕ). digits (2 ^ b) n (number (2 ^ a) src)) (omega arith));
   }
 
-  module _ (acc held i j : ℕ) (g : Cutting a b src out acc held i j) where
+  module _ {acc held i j : ℕ} (g : Cutting a b src out acc held i j) where
     -- n more numbers are read, k bits
     pub read :
         (n k x : ℕ) → k ≡ a * n → 0 < k → i + n ≤ length src → x < 2 ^ (k + 15) → x ≡ number (2 ^ a) (take n (drop i src)) →
