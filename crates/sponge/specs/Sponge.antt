@@ -1,4 +1,5 @@
--- The sponge of FIPS 202, section 4, on bytes. Throughout, r is the rate in bytes, and d the domain's bits and the first bit of the padding as a byte.
+-- The sponge of FIPS 202, section 4, on bytes. Throughout, r is the rate in bytes, and d the domain's bits and the first bit of the padding,
+-- as a byte.
 use Prim.Native.Nat.{ℕ, zero, suc, _+_, _-_, _*_, _/_, _%_}
 use mathlib.Core.List.{List, [], _∷_, _++_}
 use lib.ListN.{length, take, drop, replicate}

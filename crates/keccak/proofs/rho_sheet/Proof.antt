@@ -3,16 +3,7 @@ use borrow.Author.Needs.{needs}
 use Rattle.keccak.proofs.rho_sheet.Statement.{statement}
 use Rattle.keccak.proofs.rho_sheet.Tie as tie
 
-returns : tie.Need-returns
-returns c = cc
-
 pub rho-sheet-spec : {M : Type 1} → statement M
 rho-sheet-spec =
     tie.close
-    (tie.spec
-    (λ c κs. search needs)
-    (λ c κs. search needs)
-    (λ c κs. search needs)
-    (λ c κs. search needs)
-    (λ c κs. search needs)
-    returns)
+    (tie.spec (λ c κs. search needs) (λ c κs. search needs) (λ c κs. search needs) (λ c κs. search needs) (λ c κs. search needs) (λ c. cc))

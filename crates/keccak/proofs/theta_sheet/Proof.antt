@@ -3,9 +3,6 @@ use borrow.Author.Needs.{needs}
 use Rattle.keccak.proofs.theta_sheet.Statement.{statement}
 use Rattle.keccak.proofs.theta_sheet.Tie as tie
 
-returns : tie.Need-returns
-returns c = cc
-
 pub theta-sheet-spec : {M : Type 1} → statement M
 theta-sheet-spec =
     tie.close
@@ -18,4 +15,4 @@ theta-sheet-spec =
     (λ c. search needs)
     (λ c. search needs)
     (λ c. search needs)
-    returns)
+    (λ c. cc))

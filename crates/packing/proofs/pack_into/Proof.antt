@@ -51,7 +51,7 @@ more c =
     let i = t .loop .i in
     let l = c .before .before .shared-slice-known2 .given i .fits in
     rw (c .append-bits .ensures, c .before .wide .ensures)
-    (read _ 8 _ _ _ _ _ _ (t .loop .inv .cut) 1 (s .width) _ (omega arith) (omega arith) (omega arith)
+    (read (t .loop .inv .cut) 1 (s .width) _ (omega arith) (omega arith) (omega arith)
     (lt-of-lt-of-le l (pow-mono {i = 16} (omega arith)))
     (one (s .width) (s .coefficients .now) i (omega arith)))
 
@@ -59,7 +59,7 @@ more c =
 four : (c : tie.Then1 Inv-loop μ-loop) →
     let t = c .before .before .before .before .before .loop in
     t .j + 4 ≤ length (t .bytes)
-four c = to-write _ 8 _ _ _ _ _ _ (more (c .before)) 4 (omega arith) (omega arith) (c .if1 .taken)
+four c = to-write (more (c .before)) 4 (omega arith) (omega arith) (c .if1 .taken)
 
 -- and they are the digits of `acc`
 stored : (x j : ℕ) (out : List ℕ) → j + 4 ≤ length out → take (j + 4) (placed j (digits 256 4 x) out) ≡ take j out ++ digits 256 4 x
@@ -76,7 +76,9 @@ loop-again c =
       within = search needs;
       room = search needs;
       fours = search needs;
-      cut = write _ 8 _ _ _ _ _ _ (more (c .before .before .before .before .before)) 4 32 refl (omega arith) f (s .kept .0) (rw (s .ensures) (stored _ _ _ f));
+      cut =
+          write (more (c .before .before .before .before .before)) 4 32 refl (omega arith) f (s .kept .0)
+          (rw (s .ensures) (stored _ _ _ f));
     }
 
 loop-again-2 : tie.Need-loop-again-2 Inv-loop μ-loop
@@ -98,7 +100,7 @@ returns c =
     let t = c .before .loop in
     let l = mul-le-mul-left (s .args .width) (c .loop-test .left) in
     let h = fewer (t .j) (length (s .args .bytes .now)) (t .inv .fours) (s .pre .fours) (omega arith) in
-    done _ 8 _ _ _ _ _ _ (t .inv .cut) (omega arith) (omega arith)
+    done (t .inv .cut) (omega arith) (omega arith)
 
 pub pack-into-spec : {M : Type 1} → statement M
 pack-into-spec =
@@ -106,7 +108,7 @@ pack-into-spec =
     (tie.spec
     Inv-loop
     μ-loop
-    (λ c. record { size = refl; within = search needs; room = search needs; fours = refl; cut = start _ 8 _ _ (c .before .before .pre .fills) })
+    (λ c. record { size = refl; within = search needs; room = search needs; fours = refl; cut = start (c .before .before .pre .fills) })
     (λ c. search needs)
     (λ c. search needs)
     (λ c κs. search needs)

@@ -27,20 +27,21 @@ abbrev μ-loop : tie.MeasureT-loop
 -- with too few bits held there are four bytes to read
 four : (c : tie.Then1 Inv-loop μ-loop) → c .before .before .loop .i + 4 ≤ length (c .before .before .before .before .before .args .bytes .now)
 four c =
-    let h = to-read 8 _ _ _ _ _ _ _ (c .before .before .loop .inv .cut) (c .before .loop-test .taken) (c .if1 .taken) in
+    let h = to-read (c .before .before .loop .inv .cut) (c .before .loop-test .taken) (c .if1 .taken) in
     omega (arith, c .before .before .before .before .before .pre .fours)
 
 -- either way there are enough bits
 ready : (c : tie.Joined1 Inv-loop μ-loop) →
     let t = c .before .before in
     let s = t .before .before .before .args in
-    Turn (s .width) (s .bytes .now) (s .coefficients .now) (t .loop .coefficients) (c .if1 .acc) (c .if1 .held) (c .if1 .i) (t .loop .j) × (s .width ≤ c .if1 .held)
+    Turn (s .width) (s .bytes .now) (s .coefficients .now) (t .loop .coefficients) (c .if1 .acc) (c .if1 .held) (c .if1 .i) (t .loop .j)
+    × (s .width ≤ c .if1 .held)
 ready c =
     let t = c .before .before .loop in
     ⊎-elim
     (λ w.
     let f = four (record { before = c .before; if1 = w .0 }) in
-    let g = read 8 _ _ _ _ _ _ _ (t .inv .cut) 4 32 (w .1 .result) refl (omega arith) f (omega arith) (w .1 .ensures .0) in
+    let g = read (t .inv .cut) 4 32 (w .1 .result) refl (omega arith) f (omega arith) (w .1 .ensures .0) in
     rw (w .3, w .4, w .5, w .2 .ensures) (record { size = t .inv .size; fours = omega arith; cut = g }, omega arith))
     (λ w. rw (w .1, w .2, w .3) (t .inv, w .0 .left))
     (c .if1 .came)
@@ -54,7 +55,7 @@ loop-again c =
       size = simp length-set (r .0 .size);
       fours = r .0 .fours;
       cut =
-          write 8 _ _ _ _ _ _ _ (r .0 .cut) 1 _ (omega arith) (r .1) (omega arith) (simp length-set)
+          write (r .0 .cut) 1 _ (omega arith) (r .1) (omega arith) (simp length-set)
           (rw (c .before .before .low-bits .ensures, add-one) (take-suc-set (t .coefficients) (t .j) _ (omega arith)));
     }
 
@@ -64,7 +65,7 @@ unpack-into-spec =
     (tie.spec
     Inv-loop
     μ-loop
-    (λ c. record { size = refl; fours = refl; cut = start 8 _ _ _ (sym (c .before .before .pre .fills)) })
+    (λ c. record { size = refl; fours = refl; cut = start (sym (c .before .before .pre .fills)) })
     (λ c κs. four c)
     (λ c κs. record { room = search needs; small = c .before .before .before .loop .inv .cut .small; fits = c .load32 .ensures .1 })
     (λ c. search needs)
@@ -78,4 +79,4 @@ unpack-into-spec =
     (λ c. search needs)
     loop-again
     (λ c. c .before .loop .inv .size)
-    (λ c. done 8 _ _ _ _ _ _ _ (c .before .loop .inv .cut) (c .before .before .before .before .pre .least) (c .loop-test .left)))
+    (λ c. done (c .before .loop .inv .cut) (c .before .before .before .before .pre .least) (c .loop-test .left)))

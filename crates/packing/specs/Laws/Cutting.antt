@@ -22,7 +22,7 @@ pub record Cutting (a b : ℕ) (src out : List ℕ) (acc held i j : ℕ) : Type 
       digits (2 ^ b) (length out) (number (2 ^ a) src) ≡
       take j out ++ digits (2 ^ b) (length out - j) (acc + 2 ^ held * number (2 ^ a) (drop i src))
 
-module _ (a b : ℕ) (src out : List ℕ) where
+module _ {a b : ℕ} {src out : List ℕ} where
   pub start : a * length src ≡ b * length out → Cutting a b src out 0 0 0 0
   start e = record {
     fills = e;
@@ -31,7 +31,7 @@ module _ (a b : ℕ) (src out : List ℕ) where
     left = simp (one-mul, zero-add) (ap (λ (n : ℕ). digits (2 ^ b) n (number (2 ^ a) src)) (omega arith));
   }
 
-  module _ (acc held i j : ℕ) (g : Cutting a b src out acc held i j) where
+  module _ {acc held i j : ℕ} (g : Cutting a b src out acc held i j) where
     -- n more numbers are read, k bits
     pub read :
         (n k x : ℕ) → k ≡ a * n → 0 < k → i + n ≤ length src → x < 2 ^ (k + 15) → x ≡ number (2 ^ a) (take n (drop i src)) →
@@ -41,12 +41,14 @@ module _ (a b : ℕ) (src out : List ℕ) where
       used = omega (arith, g .used, mul-add a i n);
       small =
           lt-of-lt-of-le
-          (add-lt-pow (held + k + 15) (lt-of-lt-of-le (g .small) (pow-mono (omega arith))) (lt-of-lt-of-le (shl-lt (k + 15) held l) (pow-mono (omega arith))))
+          (add-lt-pow (held + k + 15) (lt-of-lt-of-le (g .small) (pow-mono (omega arith)))
+          (lt-of-lt-of-le (shl-lt (k + 15) held l) (pow-mono (omega arith))))
           (pow-mono (omega arith));
       left =
           g .left ∙
           ap (λ (v : ℕ). take j out ++ digits (2 ^ b) (length out - j) v)
-          (rw (number-split (2 ^ a) n (drop i src) (rw (length-drop i src) (omega arith)), drop-drop n i src, ← d, ← pow-mul a n, ← e) (above (number (2 ^ a) (drop (i + n) src))));
+          (rw (number-split (2 ^ a) n (drop i src) (rw (length-drop i src) (omega arith)), drop-drop n i src, ← d, ← pow-mul a n, ← e)
+          (above (number (2 ^ a) (drop (i + n) src))));
     }
       where
         above : (r : ℕ) → acc + 2 ^ held * (x + 2 ^ k * r) ≡ acc + x * 2 ^ held + 2 ^ (held + k) * r
@@ -75,7 +77,9 @@ module _ (a b : ℕ) (src out : List ℕ) where
         later = omega arith
 
         below : 2 ^ held * rest ≡ (2 ^ b) ^ n * (2 ^ (held - b * n) * rest)
-        below = rw (← mul-assoc ((2 ^ b) ^ n) (2 ^ (held - b * n)) rest, ← pow-mul b n, ← pow-add 2 (b * n) (held - b * n)) (ap (λ (d : ℕ). 2 ^ d * rest) (omega arith))
+        below =
+            rw (← mul-assoc ((2 ^ b) ^ n) (2 ^ (held - b * n)) rest, ← pow-mul b n, ← pow-add 2 (b * n) (held - b * n))
+            (ap (λ (d : ℕ). 2 ^ d * rest) (omega arith))
 
     -- with the bits of n numbers held, n are still to be written
     pub to-write : (n : ℕ) → 0 < b → i ≤ length src → b * n ≤ held → j + n ≤ length out

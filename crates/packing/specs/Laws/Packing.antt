@@ -8,8 +8,9 @@ use native.Mathlib.Nat.{mul-add, mul-add-div, mul-assoc, mul-comm, mul-div-right
 use lib.ListN.{length, getD, take, drop, length-append}
 use lib.Pow.{pow-pos, pow-add, shr-shr}
 use lib.Seq.{drop-cons, getD-take, length-take-le}
-use Rattle.lists.specs.Numbers.{number, digits, Below}
-use Rattle.lists.specs.Laws.Numbers.{length-digits, digits-below, digits-number, digits-split, number-digits, number-lt, number-append, number-split, pow-mul}
+use Rattle.lists.specs.Numbers.{number, Below}
+use Rattle.lists.specs.Laws.Numbers.{length-digits, digits-below, digits-number, digits-split, number-digits, number-lt, number-append}
+use Rattle.lists.specs.Laws.Numbers.{number-split, pow-mul}
 use Rattle.packing.specs.Packing.{recut, packed, unpacked, bit, streamBit}
 use Rattle.packing.specs.Rooms.{Fills}
 
@@ -74,7 +75,8 @@ low-bit : (w k x r : ℕ) → k < w → bit (x + 2 ^ w * r) k ≡ bit x k
 low-bit w k x r h =
     let d = w - k - 1 in
     let e : 2 ^ w * r ≡ 2 ^ k * (2 * (2 ^ d * r)) =
-    rw (← mul-assoc 2 (2 ^ d) r, ← pow-succ' 2 d, ← mul-assoc (2 ^ k) (2 ^ suc d) r, ← pow-add 2 k (suc d)) (ap (λ (n : ℕ). 2 ^ n * r) (omega arith)) in
+    rw (← mul-assoc 2 (2 ^ d) r, ← pow-succ' 2 d, ← mul-assoc (2 ^ k) (2 ^ suc d) r, ← pow-add 2 k (suc d))
+    (ap (λ (n : ℕ). 2 ^ n * r) (omega arith)) in
     rw (e, add-mul-div-left x (2 * (2 ^ d * r)) (pow-pos k), add-mul-mod-self-left (x / 2 ^ k) 2 (2 ^ d * r))
 
 -- the bits of the number are the stream of bits

@@ -4,7 +4,6 @@ use Prim.Native.Nat.{_≤_, _-_, _/_, _%_}
 use native.Mathlib.Nat.{zero-mod, zero-div, add-mod-right}
 use native.Mathlib.Omega.{arith}
 use borrow.Author.Needs.{needs}
-use denote.Ref.{now}
 use lib.ListN.{length, length-take, length-drop}
 use Rattle.keccak.specs.Keccak.{keccakF}
 use Rattle.sponge.specs.Sponge.{padded, absorbed, mix}
@@ -30,7 +29,7 @@ loop-again c =
       omega arith,
       add-mod-right (l .loop .at) (x .rate) ∙ l .loop .inv .1,
       c .permute .ensures ∙ ap keccakF (c .before .mix .ensures)
-          ∙ absorb-whole (x .rate) (l .loop .at) (omega arith) (l .loop .inv .1) (x .domain) (now (x .message)) _ _ (l .loop .inv .2) (omega arith)
+          ∙ absorb-whole (x .rate) (l .loop .at) (omega arith) (l .loop .inv .1) (x .domain) (x .message .now) _ _ (l .loop .inv .2) (omega arith)
           (c .before .before .before .block-of .ensures),
     )
 
@@ -40,8 +39,8 @@ returns c =
     let l = c .before .before .before .before .before in
     let x = l .before .before .args in
     ap keccakF (c .mix2 .ensures)
-    ∙ absorb-end (x .rate) (l .loop .at) (omega arith) (l .loop .inv .1) (x .domain) (now (x .message)) _ _ (l .loop .inv .2) (omega arith) (omega arith)
-    (c .before .before .last-block .ensures)
+    ∙ absorb-end (x .rate) (l .loop .at) (omega arith) (l .loop .inv .1) (x .domain) (x .message .now) _ _ (l .loop .inv .2) (omega arith)
+    (omega arith) (c .before .before .last-block .ensures)
 
 pub absorb-spec : {M : Type 1} → statement M
 absorb-spec =

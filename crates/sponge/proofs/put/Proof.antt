@@ -1,13 +1,12 @@
 -- `sponge::put` meets its contract. The loop's invariant: the first k lanes are written.
-use mathlib.Core.Path.{_≡_, refl, _∙_}
+use mathlib.Core.Path.{_≡_, refl}
 use Prim.Native.Nat.{_+_, _-_, _*_, _/_}
 use native.Mathlib.Omega.{arith}
 use borrow.Author.Needs.{needs}
 use lib.ListN.{length, length-take, length-drop}
-use Rattle.lists.specs.Laws.Fill.{Filled, fill-none, fill-part, fill-all}
-use Rattle.lists.specs.Laws.Numbers.{digits-from}
+use Rattle.lists.specs.Laws.Fill.{Filled, fill-none, fill-all}
 use Rattle.sponge.specs.Sponge.{byteAt}
-use Rattle.sponge.specs.Laws.Sponge.{lane-at}
+use Rattle.sponge.specs.Laws.Sponge.{lane-more}
 use Rattle.sponge.proofs.put.Statement.{statement}
 use Rattle.sponge.proofs.put.Tie as tie
 
@@ -23,21 +22,23 @@ loop-again c =
     let l = b .loop in
     let e : 8 * (l .k + 1) ≡ 8 * l .k + 8 = omega arith in
     rw e
-    (fill-part (omega arith) (omega (arith, l .inv .size)) (l .inv) (c .before .before .store .ensures ∙ digits-from 256 _ _)
-    (λ i h. lane-at (b .before .before .args .t1) (l .k) i (omega arith)))
+    (lane-more (b .before .before .args .t1) (l .k) (omega arith) (omega arith) (omega (arith, l .inv .size)) (l .inv)
+    (c .before .before .store .ensures))
 
 same-length : tie.Need-same-length Inv-loop μ-loop
 same-length c =
     let b = c .before .before .before .before .before .before in
-    fill-part (omega arith) (omega (arith, b .loop .inv .size)) (b .loop .inv) (c .before .before .store2 .ensures ∙ digits-from 256 _ _)
-    (λ i h. lane-at (b .before .before .args .t1) (b .loop .k) i (omega arith)) .size
+    let l = b .loop in
+    lane-more (b .before .before .args .t1) (l .k) (omega arith) (omega (arith, l .inv .size)) (omega (arith, l .inv .size)) (l .inv)
+    (c .before .before .store2 .ensures) .size
 
 returns : tie.Need-returns Inv-loop μ-loop
 returns c =
     let b = c .before .before .before .before .before .before in
-    fill-all (omega (arith, b .loop .inv .size))
-    (fill-part (omega arith) (omega (arith, b .loop .inv .size)) (b .loop .inv) (c .before .before .store2 .ensures ∙ digits-from 256 _ _)
-    (λ i h. lane-at (b .before .before .args .t1) (b .loop .k) i (omega arith)))
+    let l = b .loop in
+    fill-all (omega (arith, l .inv .size))
+    (lane-more (b .before .before .args .t1) (l .k) (omega arith) (omega (arith, l .inv .size)) (omega (arith, l .inv .size)) (l .inv)
+    (c .before .before .store2 .ensures))
 
 pub put-spec : {M : Type 1} → statement M
 put-spec =

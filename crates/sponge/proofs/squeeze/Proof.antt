@@ -1,5 +1,5 @@
--- `sponge::squeeze` meets its contract. The loop's invariant: the bytes before place at are written, and while some are left to write, a block starts there
--- and the next permutation of a gives its state.
+-- `sponge::squeeze` meets its contract. The loop's invariant: the bytes before place at are written, and while some are left to write,
+-- a block starts there and the next permutation of a gives its state.
 use mathlib.Core.Path.{_≡_, refl, ap, _∙_}
 use Prim.Native.Nat.{_<_, _+_, _-_, _/_, _%_}
 use native.Mathlib.Nat.{zero-mod, zero-div, add-mod-right, add-div-right}

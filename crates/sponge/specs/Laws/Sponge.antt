@@ -6,12 +6,14 @@ use native.Mathlib.Nat.{add-zero, add-div-right, div-add-mod'}
 use native.Mathlib.Nat.{mul-add-div-right, div-eq-of-lt, mul-add-mod-self-right, mod-eq-of-lt}
 use native.Mathlib.Numerals.{add-one}
 use native.Mathlib.Omega.{arith}
-use borrow.Rule.Slice.PartMut.{midOf}
-use lib.ListN.{length, getD, take, drop, set, replicate, length-append, length-drop, length-replicate, replicate-append-replicate}
+use borrow.Rule.Slice.PartMut.{putMid, midOf}
+use lib.ListN.{length, take, drop, set, replicate, length-append, length-drop, length-replicate, replicate-append-replicate}
 use lib.Seq.{set-at, set-append-seam, append-snoc, drop-at, length-take-le, take-all, take-append-le, drop-append-le}
-use Rattle.lists.specs.Numbers.{digit, Below}
+use Rattle.lists.specs.Numbers.{digit, digits, Below}
 use Rattle.lists.specs.Strings.{placed}
 use Rattle.lists.specs.Laws.Lists.{length-from, from-at}
+use Rattle.lists.specs.Laws.Fill.{Filled, fill-part}
+use Rattle.lists.specs.Laws.Numbers.{digits-from}
 use Rattle.lists.specs.Laws.Parts.{mid-part, last-part}
 use Rattle.lists.specs.Laws.Strings.{placed-front}
 use Rattle.keccak.specs.Keccak.{State, lane, keccakF}
@@ -91,11 +93,11 @@ module _ (r at : ℕ) (pos : 0 < r) (starts : at % r ≡ 0) where
         keccakF (mix a b) ≡ absorbed r (padded r d m) ((at + r) / r)
     unfolding padded
     absorb-whole h q =
-        let k : at + r - at ≡ r = omega arith in
         let pad = padding (r - length m % r) d in
         let l : r ≤ length (drop at m) = omega (arith, length-drop at m) in
-        let t : take r (drop at (m ++ pad)) ≡ take r (drop at m) = ap (take r) (drop-append-le at m pad (omega arith)) ∙ take-append-le r (drop at m) pad l in
-        rw q (rw (k, length-take-le r (drop at m) l, ← t) (absorb-next (m ++ pad) a e))
+        let t : take r (drop at (m ++ pad)) ≡ take r (drop at m) =
+        ap (take r) (drop-append-le at m pad (omega arith)) ∙ take-append-le r (drop at m) pad l in
+        rw q (rw (mid-part at r m, length-take-le r (drop at m) l, ← t) (absorb-next (m ++ pad) a e))
 
     -- what is left behind the last whole block, and the padding
     pub absorb-end :
@@ -109,14 +111,18 @@ module _ (r at : ℕ) (pos : 0 < r) (starts : at % r ≡ 0) where
         let y : length m % r ≡ x = ap (λ (n : ℕ). n % r) (sym w) ∙ block-mod x h in
         let pad = padding (r - length m % r) d in
         let lp : length pad ≡ r - length m % r = length-padding (r - length m % r) d in
-        let all : midOf at x m ≡ drop at m = take-all x (drop at m) (omega (arith, length-drop at m)) in
         let fits : length (drop at m ++ pad) ≤ r = omega (arith, length-append (drop at m) pad, length-drop at m, y, lp) in
         let t : take r (drop at (m ++ pad)) ≡ drop at m ++ pad = ap (take r) (drop-append-le at m pad l) ∙ take-all r (drop at m ++ pad) fits in
         let n : length (m ++ pad) ≡ at + r = length-append m pad ∙ omega (arith, y, lp) in
         rw q
-        (rw (all, length-drop at m, ← y, n, ← append-assoc (drop at m) pad (replicate (200 - r) 0), ← t) (absorb-next (m ++ pad) a e))
+        (rw (last-part at (length m) m refl, length-drop at m, ← y, n, ← append-assoc (drop at m) pad (replicate (200 - r) 0), ← t)
+        (absorb-next (m ++ pad) a e))
 
--- the next 8 bytes of a state come from one lane
-pub lane-at : (a : State) (k i : ℕ) → i < 8 → digit 256 (lane a (k % 5) (k / 5)) i ≡ byteAt a (8 * k + i)
+-- the next bytes of a state, up to 8, come from one lane
+pub lane-more :
+    (a : State) (k : ℕ) {n e : ℕ} {s y : List ℕ} → 8 * k ≤ e → e ≤ 8 * k + 8 → e ≤ n → Filled n s (8 * k) (byteAt a) →
+    y ≡ digits 256 (length (midOf (8 * k) (e - 8 * k) s)) (lane a (k % 5) (k / 5)) → Filled n (putMid (8 * k) (e - 8 * k) s y) e (byteAt a)
 unfolding byteAt
-lane-at a k i h = ap₂ (λ (x y : ℕ). digit 256 (lane a (x % 5) (x / 5)) y) (omega arith) (omega arith)
+lane-more a k h m l w q =
+    fill-part h l w (q ∙ digits-from 256 _ _)
+    (λ i p. ap₂ (λ (x y : ℕ). digit 256 (lane a (x % 5) (x / 5)) y) (omega arith) (omega arith))
