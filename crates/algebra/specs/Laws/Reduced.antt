@@ -6,14 +6,13 @@ use native.Mathlib.Nat.{zero-mod}
 use native.Mathlib.Omega.{arith}
 use lib.IntN.{ℤ, pos, _+ℤ_, _*ℤ_, *ℤ-comm, *ℤ-zero}
 use lib.ListN.{getD, take, drop, List·getD-map}
-use lib.Seq.{getD-take, getD-drop}
 use Rattle.lists.specs.Lists.{from}
 use Rattle.lists.specs.Laws.Lists.{from-cong, map-from}
 use Rattle.algebra.specs.Integers.{modℤ, sum}
 use Rattle.algebra.specs.Ring.{at, coef, inner, nat, residues}
 use Rattle.algebra.specs.Laws.Whole.{eqℤ, add-split, mul-addℤ, mul-leftℤ}
 use Rattle.algebra.specs.Laws.Sums.{sum-next}
-use Rattle.algebra.specs.Laws.Residues.{Same, mod-of, mod-to, mod-part, mod-bound, same-refl, same-sym, same-add, same-neg, same-scale}
+use Rattle.algebra.specs.Laws.Residues.{Same, mod-of, mod-to, mod-part, mod-bound, same-refl, same-add, same-neg, same-scale}
 use Rattle.algebra.specs.Laws.Residues.{same-mul, same-sum, same-residue}
 use Rattle.algebra.specs.Columns.{doubled, table, dot}
 use Rattle.algebra.specs.Laws.Table.{coef-doubled, coef-table}

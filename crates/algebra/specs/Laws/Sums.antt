@@ -1,5 +1,5 @@
 -- Laws of sums by a count.
-use Prim.Native.Nat.{ℕ, zero, suc, _+_, _-_, _<_, _≤_}
+use Prim.Native.Nat.{ℕ, zero, suc, _+_, _-_, _<_}
 use mathlib.Core.Path.{_≡_, refl, sym, _∙_, ap, ap₂}
 use native.Mathlib.Nat.{add-zero, add-suc, suc-sub-suc, sub-zero}
 use native.Mathlib.Numerals.{add-one}

@@ -7,7 +7,6 @@ use lib.IntN.{ℤ, pos, negℤ, _+ℤ_, _*ℤ_}
 use lib.ListN.{take, drop}
 use lib.Seq.{getD-take, getD-drop}
 use borrow.Author.Tests.{lt-ltb, le-ltb}
-use Rattle.lists.specs.Lists.{from}
 use Rattle.lists.specs.Laws.Lists.{from-at}
 use Rattle.algebra.specs.Integers.{sum}
 use Rattle.algebra.specs.Ring.{at, coef}
