@@ -1,4 +1,4 @@
--- The permutation of FIPS 202, section 3, on twenty-five lanes of 64 bits: its five steps, their round, and 24 rounds. Definitions only.
+-- The permutation of FIPS 202, section 3, on twenty-five lanes of 64 bits: its five steps, their round, and 24 rounds.
 use Prim.Native.Nat.{ℕ, zero, suc, _+_, _-_, _*_, _/_, _%_, _^_}
 use mathlib.Core.List.{List, [], _∷_}
 use lib.ListN.{getD, set}

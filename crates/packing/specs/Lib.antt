@@ -1,3 +1,4 @@
 pub mod Packing
 pub mod Promises
+pub mod Rooms
 pub mod Laws

@@ -1,21 +1,11 @@
 -- Document 01, "Bytes": packing lays coefficient 0 first, least significant bit first, with no gaps. The definitions are for every width.
--- Definitions only.
-use Prim.Native.Nat.{ℕ, zero, suc, _+_, _*_, _/_, _%_, _^_, _<_}
+use Prim.Native.Nat.{ℕ, _*_, _/_, _%_, _^_}
 use mathlib.Core.Bool.{Bool, _||_}
 use mathlib.Core.List.{List, [], _∷_}
 use lib.Dec.{eqb}
 use lib.ListN.{length, getD}
-use Rattle.questions.specs.Answers.{ask, allBelow}
-
--- the number whose digits to the base B the list gives, lowest first
-unfoldable pub number : ℕ → List ℕ → ℕ
-number B [] = 0
-number B (x ∷ xs) = x + B * number B xs
-
--- the n lowest digits of v to the base B, lowest first
-unfoldable pub digits : ℕ → ℕ → ℕ → List ℕ
-digits B zero v = []
-digits B (suc n) v = v % B ∷ digits B n (v / B)
+use Rattle.lists.specs.Numbers.{number, digits}
+use Rattle.questions.specs.Answers.{Question, allBelow}
 
 -- numbers of a bits laid end to end, the first one lowest, and cut into whole numbers of b bits in the same order
 unfoldable pub recut : ℕ → ℕ → List ℕ → List ℕ
@@ -29,10 +19,6 @@ packed w coefficients = recut w 8 coefficients
 abbrev pub unpacked : ℕ → List ℕ → List ℕ
 unpacked w bytes = recut 8 w bytes
 
--- each element is below B
-abbrev pub Below : ℕ → List ℕ → Type 0
-Below B xs = (k : ℕ) → k < length xs → getD xs k 0 < B
-
 -- bit k of a number, the least significant one being bit 0
 abbrev pub bit : ℕ → ℕ → ℕ
 bit x k = x / 2 ^ k % 2
@@ -45,19 +31,11 @@ streamBit w xs k = bit (getD xs (k / w) 0) (k % w)
 abbrev pub isWidth : ℕ → Bool
 isWidth w = eqb w 1 || (eqb w 3 || (eqb w 4 || (eqb w 6 || (eqb w 10 || eqb w 13))))
 
--- what packing answers: Q2, Q7, Q8, which asks what the coefficients hold, Q9
-unfoldable pub packAnswer : ℕ → List ℕ → ℕ → ℕ
-packAnswer w coefficients outLength =
-    ask (isWidth w) 2
-    (ask (eqb (length coefficients) 256) 7
-    (ask (allBelow (2 ^ w) coefficients) 8
-    (ask (eqb outLength (32 * w)) 9
-    0)))
+-- what packing asks: Q2, Q7, Q8, which asks what the coefficients hold, Q9
+abbrev pub packQuestions : ℕ → List ℕ → ℕ → List Question
+packQuestions w coefficients out =
+    (isWidth w, 2) ∷ (eqb (length coefficients) 256, 7) ∷ (allBelow (2 ^ w) coefficients, 8) ∷ (eqb out (32 * w), 9) ∷ []
 
--- what unpacking answers: Q2, Q7, Q9
-unfoldable pub unpackAnswer : ℕ → ℕ → ℕ → ℕ
-unpackAnswer w bytesLength outLength =
-    ask (isWidth w) 2
-    (ask (eqb bytesLength (32 * w)) 7
-    (ask (eqb outLength 256) 9
-    0))
+-- what unpacking asks: Q2, Q7, Q9
+abbrev pub unpackQuestions : ℕ → ℕ → ℕ → List Question
+unpackQuestions w bytes out = (isWidth w, 2) ∷ (eqb bytes (32 * w), 7) ∷ (eqb out 256, 9) ∷ []

@@ -1,24 +1,17 @@
 // Packing and unpacking at any width of 1 to 16 bits, four bytes at a time.
 ghost use mathlib.Core.Path.{_≡_};
-ghost use Prim.Native.Nat.{_+_, _*_, _%_, _^_, _<_, _≤_};
-ghost use lib.ListN.{length, take, drop};
-ghost use lib.Seq.{sets};
-ghost use Rattle.lists.specs.Numbers.{number, digits};
-ghost use Rattle.packing.specs.Packing.{packed, unpacked, isWidth, packAnswer, unpackAnswer};
-ghost use Rattle.packing.specs.Promises.{Packed, Unpacked, Fills, Appends};
+ghost use Prim.Native.Nat.{_+_, _*_, _%_, _^_, _≤_};
+ghost use lib.ListN.{length};
+ghost use Rattle.questions.specs.Answers.{earliest};
+ghost use Rattle.packing.specs.Packing.{packed, unpacked, isWidth, packQuestions, unpackQuestions};
+ghost use Rattle.packing.specs.Promises.{Packed, Unpacked};
+ghost use Rattle.packing.specs.Rooms.{Fills, Appends};
 use questions::all_below;
 use questions::ask;
 
 // A coefficient, wide enough to be shifted.
 fn wide(x: u16) -> u64
     ensures { λ r. ⌜ r ≡ x ⌝ }
-{
-    x as u64
-}
-
-// A byte, wide enough to be shifted.
-fn byte(x: u8) -> u64
-    ensures { λ r. ⌜ (r ≡ x) × (r < 256) ⌝ }
 {
     x as u64
 }
@@ -39,29 +32,6 @@ fn low_bits(acc: u64, width: u32) -> u16
     (acc % (1u64 << width)) as u16
 }
 
-// The four bytes from i on as a number, the first one lowest.
-fn word_at(bytes: &[u8], i: usize) -> u64
-    requires { ⌜ i + 4 ≤ length (now bytes) ⌝ }
-    ensures { λ r. ⌜ (r ≡ number 256 (take 4 (drop i (now (bytes .entry))))) × (r < 2 ^ 32) ⌝ }
-{
-    let a = byte(bytes[i]);
-    let b = byte(bytes[i + 1]);
-    let c = byte(bytes[i + 2]);
-    let d = byte(bytes[i + 3]);
-    a + 256 * (b + 256 * (c + 256 * d))
-}
-
-// Writes the four lowest bytes of x from j on.
-fn set_word(bytes: &mut [u8], j: usize, x: u64)
-    requires { ⌜ j + 4 ≤ length (now bytes) ⌝ }
-    ensures { λ _. ⌜ now (bytes .exit) ≡ sets (now (bytes .entry)) j (digits 256 4 x) ⌝ }
-{
-    bytes[j] = (x % 256) as u8;
-    bytes[j + 1] = (x / 256 % 256) as u8;
-    bytes[j + 2] = (x / 256 / 256 % 256) as u8;
-    bytes[j + 3] = (x / 256 / 256 / 256 % 256) as u8;
-}
-
 // Packs coefficients, whatever their number. The bits that are read and not yet written are the `held` lowest of `acc`.
 pub fn pack_into(width: u32, coefficients: &[u16], bytes: &mut [u8])
     requires { ⌜ Fills width (length (now coefficients)) (length (now bytes)) ⌝ }
@@ -76,7 +46,7 @@ pub fn pack_into(width: u32, coefficients: &[u16], bytes: &mut [u8])
         held += width;
         i += 1;
         if held >= 32 {
-            set_word(bytes, j, acc);
+            lists::store32(bytes, j, acc);
             acc >>= 32;
             held -= 32;
             j += 4;
@@ -95,7 +65,7 @@ pub fn unpack_into(width: u32, bytes: &[u8], coefficients: &mut [u16])
     let mut j: usize = 0;
     while j < coefficients.len() {
         if held < width {
-            acc = append_bits(acc, held, word_at(bytes, i));
+            acc = append_bits(acc, held, lists::load32(bytes, i));
             held += 32;
             i += 4;
         }
@@ -114,37 +84,25 @@ fn is_width(width: u32) -> bool
         | ((width == 3) | ((width == 4) | ((width == 6) | ((width == 10) | (width == 13)))))
 }
 
-// The answer of `pack`. Without Q2 there is no bound for Q8.
+// The answer of `pack`. Where Q2 says no, the bound of Q8 does not matter: the shift is made one that a u32 has.
 fn pack_answer(width: u32, coefficients: &[u16], bytes: usize) -> u8
-    ensures { λ r. ⌜ r ≡ packAnswer width (now (coefficients .entry)) bytes ⌝ }
+    ensures { λ r. ⌜ r ≡ earliest (packQuestions width (now (coefficients .entry)) bytes) ⌝ }
 {
-    if !is_width(width) {
-        return 2;
-    }
-    ask(
-        coefficients.len() == 256,
-        7,
-        ask(
-            all_below(1u32 << width, coefficients),
-            8,
-            ask(bytes == 32 * (width as usize), 9, 0),
-        ),
-    )
+    let q2 = is_width(width);
+    let q7 = coefficients.len() == 256;
+    let q8 = all_below(1u32 << (width % 32), coefficients);
+    let q9 = bytes == 32 * (width as usize);
+    ask(q2, 2, ask(q7, 7, ask(q8, 8, ask(q9, 9, 0))))
 }
 
 // The answer of `unpack`.
 fn unpack_answer(width: u32, bytes: usize, coefficients: usize) -> u8
-    ensures { λ r. ⌜ r ≡ unpackAnswer width bytes coefficients ⌝ }
+    ensures { λ r. ⌜ r ≡ earliest (unpackQuestions width bytes coefficients) ⌝ }
 {
-    ask(
-        is_width(width),
-        2,
-        ask(
-            bytes == 32 * (width as usize),
-            7,
-            ask(coefficients == 256, 9, 0),
-        ),
-    )
+    let q2 = is_width(width);
+    let q7 = bytes == 32 * (width as usize);
+    let q9 = coefficients == 256;
+    ask(q2, 2, ask(q7, 7, ask(q9, 9, 0)))
 }
 
 // Packs a polynomial: Q2, Q7, Q8, Q9.

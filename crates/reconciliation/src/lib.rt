@@ -1,11 +1,32 @@
-// Reconciliation: the data that encryption sends of a polynomial, and the recovery of the message bits from it.
+// Reconciliation: w of a message, the data that encryption sends of it, and the recovery of the message bits.
 ghost use mathlib.Core.Path.{_≡_};
 ghost use lib.ListN.{length};
-ghost use Rattle.reconciliation.specs.Reconciliation.{bitOf, reconData, recovered, reconDataAnswer, recoverAnswer};
-ghost use Rattle.reconciliation.specs.Promises.{ReconData, Recovered, ReconRoom, RecoverRoom};
+ghost use Rattle.questions.specs.Answers.{earliest};
+ghost use Rattle.reconciliation.specs.Reconciliation.{masked, bitOf, maskedPoly, reconData, recovered, reconDataQuestions, recoverQuestions};
+ghost use Rattle.reconciliation.specs.Promises.{ReconData, Recovered};
+ghost use Rattle.reconciliation.specs.Rooms.{ReconRoom, RecoverRoom};
 use questions::all_below;
 use questions::ask;
 use sets::set_params;
+
+// w of a coefficient: v + 512 × bit, modulo 1024.
+fn mask(v: u16, bit: u16) -> u16
+    ensures { λ r. ⌜ r ≡ masked v bit ⌝ }
+{
+    ((v as u32 + 512 * (bit as u32)) % 1024) as u16
+}
+
+// w of a polynomial, from v and the message bits. As a slice the output shows its length.
+pub fn mask_into(v: &[u16; 256], bits: &[u16; 256], w: &mut [u16; 256])
+    ensures { λ _. ⌜ now (w .exit) ≡ maskedPoly (now (v .entry)) (now (bits .entry)) ⌝ }
+{
+    let out = &mut w[..];
+    let mut k = 0;
+    while k < 256 {
+        out[k] = mask(v[k], bits[k]);
+        k += 1;
+    }
+}
 
 // The data of each coefficient. The step is a power of two, so the quotient by it is a shift.
 pub fn recon_into(g: u16, w: &[u16], data: &mut [u16])
@@ -21,44 +42,48 @@ pub fn recon_into(g: u16, w: &[u16], data: &mut [u16])
 }
 
 // The bit of one coefficient. A multiple of 1024 keeps the difference from falling below zero.
-fn bit_of(g: u16, margin: u16, v: u16, data: u16) -> u16
-    ensures { λ r. ⌜ r ≡ bitOf g margin v «data» ⌝ }
+fn bit_of(g: u16, added: u16, v: u16, data: u16) -> u16
+    ensures { λ r. ⌜ r ≡ bitOf g added v «data» ⌝ }
 {
-    ((v as u32 + margin as u32 + (1024 - g as u32 * data as u32 % 1024)) % 1024 / 512) as u16
+    ((v as u32 + added as u32 + (1024 - g as u32 * data as u32 % 1024)) % 1024 / 512) as u16
 }
 
 // The bit of each coefficient.
-pub fn recover_into(g: u16, margin: u16, v: &[u16], data: &[u16], bits: &mut [u16])
+pub fn recover_into(g: u16, added: u16, v: &[u16], data: &[u16], bits: &mut [u16])
     requires { ⌜ RecoverRoom (length (now v)) (length (now «data»)) (length (now bits)) ⌝ }
-    ensures { λ _. ⌜ now (bits .exit) ≡ recovered g margin (now (v .entry)) (now («data» .entry)) ⌝ }
+    ensures { λ _. ⌜ now (bits .exit) ≡ recovered g added (now (v .entry)) (now («data» .entry)) ⌝ }
 {
     let mut i = 0;
     while i < bits.len() {
-        bits[i] = bit_of(g, margin, v[i], data[i]);
+        bits[i] = bit_of(g, added, v[i], data[i]);
         i += 1;
     }
 }
 
 fn recon_data_answer(set: u32, w: &[u16], data: usize) -> u8
-    ensures { λ r. ⌜ r ≡ reconDataAnswer set (now (w .entry)) «data» ⌝ }
+    ensures { λ r. ⌜ r ≡ earliest (reconDataQuestions set (now (w .entry)) «data») ⌝ }
 {
     let p = set_params(set);
-    let q9 = ask(data == 256, 9, 0);
-    let q8 = ask(all_below(1024, w), 8, q9);
-    let q7 = ask(w.len() == 256, 7, q8);
-    ask(0 < p.l, 1, q7)
+    let q8 = ask(all_below(1024, w), 8, ask(data == 256, 9, 0));
+    ask(0 < p.l, 1, ask(w.len() == 256, 7, q8))
 }
 
 // The bound of data, 1024 / g, is 2 t.
 fn recover_answer(set: u32, v: &[u16], data: &[u16], bits: usize) -> u8
-    ensures { λ r. ⌜ r ≡ recoverAnswer set (now (v .entry)) (now («data» .entry)) bits ⌝ }
+    ensures { λ r. ⌜ r ≡ earliest (recoverQuestions set (now (v .entry)) (now («data» .entry)) bits) ⌝ }
 {
     let p = set_params(set);
     let bound = 2 * p.t as u32;
-    let q9 = ask(bits == 256, 9, 0);
-    let q8 = ask(all_below(1024, v) & all_below(bound, data), 8, q9);
-    let q7 = ask((v.len() == 256) & (data.len() == 256), 7, q8);
-    ask(0 < p.l, 1, q7)
+    let q8 = ask(
+        all_below(1024, v),
+        8,
+        ask(all_below(bound, data), 8, ask(bits == 256, 9, 0)),
+    );
+    ask(
+        0 < p.l,
+        1,
+        ask(v.len() == 256, 7, ask(data.len() == 256, 7, q8)),
+    )
 }
 
 // Reconciliation data of a polynomial: Q1, Q7, Q8, Q9.

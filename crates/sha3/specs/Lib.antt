@@ -1,3 +1,2 @@
-pub mod Sponge
-pub mod Laws
+pub mod Hashes
 pub mod Promises

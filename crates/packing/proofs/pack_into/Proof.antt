@@ -1,14 +1,17 @@
 -- `packing::pack_into` meets its contract: each turn reads a coefficient, and writes four bytes once 32 bits are held.
 use borrow.Author.Needs.{needs}
 use Prim.Native.Nat.{ℕ, _+_, _-_, _%_, _^_, _≤_, _<_}
-use mathlib.Core.List.{List}
+use mathlib.Core.List.{List, _++_}
 use mathlib.Core.Path.{_≡_, refl, _∙_}
 use native.Mathlib.Omega.{arith}
 use native.Mathlib.Nat.{mul-zero, mul-le-mul-left, lt-of-lt-of-le}
 use lib.ListN.{length, getD, take, drop}
 use lib.Pow.{pow-mono}
 use lib.Seq.{drop-cons}
-use Rattle.lists.specs.Numbers.{number}
+use Rattle.lists.specs.Numbers.{number, digits}
+use Rattle.lists.specs.Strings.{placed}
+use Rattle.lists.specs.Laws.Numbers.{length-digits}
+use Rattle.lists.specs.Laws.Strings.{placed-next}
 use Rattle.packing.specs.Laws.Cutting.{Cutting, start, read, write, to-write, done}
 use Rattle.packing.proofs.pack_into.Statement.{statement}
 use Rattle.packing.proofs.pack_into.Tie as tie
@@ -58,16 +61,23 @@ four : (c : tie.Then1 Inv-loop μ-loop) →
     t .j + 4 ≤ length (t .bytes)
 four c = to-write _ 8 _ _ _ _ _ _ (more (c .before)) 4 (omega arith) (omega arith) (c .if1 .taken)
 
+-- and they are the digits of `acc`
+stored : (x j : ℕ) (out : List ℕ) → j + 4 ≤ length out → take (j + 4) (placed j (digits 256 4 x) out) ≡ take j out ++ digits 256 4 x
+stored x j out h =
+    let l = length-digits 256 4 x in
+    placed-next j (digits 256 4 x) out (omega arith) (take j out) (j + 4) (omega arith) refl
+
 loop-again : tie.Need-loop-again Inv-loop μ-loop
-loop-again c = record {
-  size = c .before .before .set-word .kept .0 ∙ c .before .before .before .before .before .before .before .before .before .loop .inv .size;
-  within = search needs;
-  room = search needs;
-  fours = search needs;
-  cut =
-      rw (c .before .before .set-word .ensures)
-      (write _ 8 _ _ _ _ _ _ (more (c .before .before .before .before .before)) 4 32 refl (omega arith) (four (c .before .before .before .before)));
-}
+loop-again c =
+    let s = c .before .before .store32 in
+    let f = four (c .before .before .before .before) in
+    record {
+      size = s .kept .0 ∙ c .before .before .before .before .before .before .before .before .before .loop .inv .size;
+      within = search needs;
+      room = search needs;
+      fours = search needs;
+      cut = write _ 8 _ _ _ _ _ _ (more (c .before .before .before .before .before)) 4 32 refl (omega arith) f (s .kept .0) (rw (s .ensures) (stored _ _ _ f));
+    }
 
 loop-again-2 : tie.Need-loop-again-2 Inv-loop μ-loop
 loop-again-2 c = record {

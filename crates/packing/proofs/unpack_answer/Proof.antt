@@ -1,11 +1,11 @@
--- `packing::unpack_answer` meets its contract: it is the definition's nest of questions.
+-- `packing::unpack_answer` meets its contract: it asks the questions of the definition.
 use borrow.Author.Needs.{needs}
-use Rattle.packing.specs.Packing.{unpackAnswer}
+use Rattle.questions.specs.Answers.{earliest}
 use Rattle.packing.proofs.unpack_answer.Statement.{statement}
 use Rattle.packing.proofs.unpack_answer.Tie as tie
 
 returns : tie.Need-returns
-unfolding unpackAnswer
+unfolding earliest
 returns c = cc
 
 pub unpack-answer-spec : {M : Type 1} → statement M

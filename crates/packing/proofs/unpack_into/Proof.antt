@@ -5,7 +5,9 @@ use mathlib.Core.List.{List}
 use mathlib.Core.Logic.{⊎-elim}
 use mathlib.Core.Path.{_≡_, refl, sym}
 use native.Mathlib.Omega.{arith}
+use native.Mathlib.Numerals.{add-one}
 use lib.ListN.{length, length-set}
+use lib.Seq.{take-suc-set}
 use Rattle.lists.specs.Numbers.{digits}
 use Rattle.packing.specs.Laws.Cutting.{Cutting, start, read, write, to-read, done}
 use Rattle.packing.proofs.unpack_into.Statement.{statement}
@@ -47,10 +49,13 @@ loop-again : tie.Need-loop-again Inv-loop μ-loop
 unfolding digits
 loop-again c =
     let r = ready (c .before .before .before) in
+    let t = c .before .before .before .before .before .loop in
     record {
       size = simp length-set (r .0 .size);
       fours = r .0 .fours;
-      cut = rw (c .before .before .low-bits .ensures) (write 8 _ _ _ _ _ _ _ (r .0 .cut) 1 _ (omega arith) (r .1) (omega arith));
+      cut =
+          write 8 _ _ _ _ _ _ _ (r .0 .cut) 1 _ (omega arith) (r .1) (omega arith) (simp length-set)
+          (rw (c .before .before .low-bits .ensures, add-one) (take-suc-set (t .coefficients) (t .j) _ (omega arith)));
     }
 
 pub unpack-into-spec : {M : Type 1} → statement M
@@ -61,7 +66,7 @@ unpack-into-spec =
     μ-loop
     (λ c. record { size = refl; fours = refl; cut = start 8 _ _ _ (sym (c .before .before .pre .fills)) })
     (λ c κs. four c)
-    (λ c κs. record { room = search needs; small = c .before .before .before .loop .inv .cut .small; fits = c .word-at .ensures .1 })
+    (λ c κs. record { room = search needs; small = c .before .before .before .loop .inv .cut .small; fits = c .load32 .ensures .1 })
     (λ c. search needs)
     (λ c. omega (arith, four (c .before .before)))
     (λ c κs. search needs)

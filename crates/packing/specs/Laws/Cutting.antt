@@ -1,16 +1,16 @@
 -- A loop that cuts numbers of a bits into numbers of b bits: i of them are read, j are written, and the bits between are the `held` lowest of `acc`.
 use Prim.Native.Nat.{ℕ, _+_, _-_, _*_, _/_, _^_, _<_, _≤_}
 use mathlib.Core.List.{List, _++_, append-assoc, append-nil}
-use mathlib.Core.Path.{_≡_, sym, ap, _∙_}
+use mathlib.Core.Path.{_≡_, ap, _∙_}
 use native.Mathlib.Omega.{arith}
 use native.Mathlib.Nat.{lt-of-lt-of-le, le-of-mul-le-mul-left, lt-of-mul-lt-mul-left, mul-add, mul-assoc}
 use native.Mathlib.Nat.{mul-comm, mul-le-mul-left, mul-suc, mul-zero, one-mul, zero-add}
-use lib.ListN.{length, take, drop, length-append, length-drop, take-append-drop}
+use lib.ListN.{length, take, drop, length-drop}
 use lib.Pow.{add-lt-pow, pow-add, pow-mono, pow-pos, shl-lt, shr-lt}
-use lib.Seq.{drop-drop, length-sets, length-take-le, sets, sets-eq, take-all, take-at}
+use lib.Seq.{drop-drop, take-all}
 use Rattle.lists.specs.Numbers.{number, digits}
+use Rattle.lists.specs.Laws.Numbers.{digits-split, number-split, pow-mul}
 use Rattle.packing.specs.Packing.{recut}
-use Rattle.lists.specs.Laws.Numbers.{digits-split, length-digits, number-append, pow-mul}
 use Rattle.packing.specs.Laws.Packing.{recut-count}
 
 -- `left` has what is still to be written; a number read may have more than a bits, so `acc` may reach 16 bits above those held
@@ -21,20 +21,6 @@ pub record Cutting (a b : ℕ) (src out : List ℕ) (acc held i j : ℕ) : Type 
   pub left :
       digits (2 ^ b) (length out) (number (2 ^ a) src) ≡
       take j out ++ digits (2 ^ b) (length out - j) (acc + 2 ^ held * number (2 ^ a) (drop i src))
-
--- the first n numbers, and then the others above them
-number-split : (a n : ℕ) (xs : List ℕ) → n ≤ length xs → number (2 ^ a) xs ≡ number (2 ^ a) (take n xs) + 2 ^ (a * n) * number (2 ^ a) (drop n xs)
-number-split a n xs h =
-    ap (number (2 ^ a)) (sym (take-append-drop n xs))
-    ∙ number-append (2 ^ a) (take n xs) (drop n xs)
-    ∙ rw (length-take-le n xs h, pow-mul a n)
-
--- n elements written after the first j
-take-sets : (out vs : List ℕ) (j n : ℕ) → length vs ≡ n → j + n ≤ length out → take (j + n) (sets out j vs) ≡ take j out ++ vs
-take-sets out vs j n e h =
-    ap (take (j + n)) (sets-eq vs out j (omega arith))
-    ∙ take-at (take j out ++ vs) (drop (j + length vs) out) (j + n)
-    (length-append (take j out) vs ∙ rw (length-take-le j out (omega arith), e))
 
 module _ (a b : ℕ) (src out : List ℕ) where
   pub start : a * length src ≡ b * length out → Cutting a b src out 0 0 0 0
@@ -60,7 +46,7 @@ module _ (a b : ℕ) (src out : List ℕ) where
       left =
           g .left ∙
           ap (λ (v : ℕ). take j out ++ digits (2 ^ b) (length out - j) v)
-          (rw (number-split a n (drop i src) (rw (length-drop i src) (omega arith)), drop-drop n i src, ← d, ← e) (above (number (2 ^ a) (drop (i + n) src))));
+          (rw (number-split (2 ^ a) n (drop i src) (rw (length-drop i src) (omega arith)), drop-drop n i src, ← d, ← pow-mul a n, ← e) (above (number (2 ^ a) (drop (i + n) src))));
     }
       where
         above : (r : ℕ) → acc + 2 ^ held * (x + 2 ^ k * r) ≡ acc + x * 2 ^ held + 2 ^ (held + k) * r
@@ -68,21 +54,14 @@ module _ (a b : ℕ) (src out : List ℕ) where
 
     -- n more numbers are written, k bits
     pub write :
-        (n k : ℕ) → k ≡ b * n → k ≤ held → j + n ≤ length out →
-        Cutting a b src (sets out j (digits (2 ^ b) n acc)) (acc / 2 ^ k) (held - k) i (j + n)
-    write n k e p h = record {
-      fills = rw (length-sets out j (digits (2 ^ b) n acc)) (g .fills);
+        (n k : ℕ) {new : List ℕ} → k ≡ b * n → k ≤ held → j + n ≤ length out → length new ≡ length out →
+        take (j + n) new ≡ take j out ++ digits (2 ^ b) n acc → Cutting a b src new (acc / 2 ^ k) (held - k) i (j + n)
+    write n k e p h l w = record {
+      fills = rw l (g .fills);
       used = omega (arith, g .used, mul-add b j n);
       small = shr-lt (held - k + 16) k (rw (ap (λ (d : ℕ). 2 ^ d) back) (g .small));
       left =
-          rw (
-            length-sets out j (digits (2 ^ b) n acc),
-            take-sets out (digits (2 ^ b) n acc) j n (length-digits (2 ^ b) n acc) h,
-            append-assoc,
-            e,
-            pow-mul b n,
-            ← digits-split (2 ^ b) n (length out - (j + n)) acc (2 ^ (held - b * n) * rest) (pow-pos b),
-          )
+          rw (l, w, append-assoc, e, pow-mul b n, ← digits-split (2 ^ b) n (length out - (j + n)) acc (2 ^ (held - b * n) * rest) (pow-pos b))
           (g .left ∙ ap (λ (l : List ℕ). take j out ++ l) (rw (below, later)));
     }
       where

@@ -1,13 +1,12 @@
 -- `reconciliation::recover_answer` meets its contract: it asks the questions of the definition, since 2 t is 1024 / g.
 use borrow.Author.Needs.{needs}
-use Rattle.reconciliation.specs.Laws.{data-bound}
+use Rattle.questions.specs.Answers.{earliest}
+use Rattle.sets.specs.Laws.Rows.{data-bound}
 use Rattle.reconciliation.proofs.recover_answer.Statement.{statement}
 use Rattle.reconciliation.proofs.recover_answer.Tie as tie
 
-returns : tie.Need-returns
-returns c = cc (data-bound (c .before .before .before .before .before .before .before .before .before .before .before .args .set))
-
 pub recover-answer-spec : {M : Type 1} → statement M
+unfolding earliest
 recover-answer-spec =
     tie.close
     (tie.spec
@@ -20,4 +19,6 @@ recover-answer-spec =
     (λ c κs. search needs)
     (λ c κs. search needs)
     (λ c κs. search needs)
-    returns)
+    (λ c κs. search needs)
+    (λ c κs. search needs)
+    (λ c. cc (data-bound (c .before .before .before .before .before .before .before .before .before .before .before .before .before .args .set))))

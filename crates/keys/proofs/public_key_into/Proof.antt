@@ -1,0 +1,32 @@
+-- `keys::public_key_into` meets its contract: the vector and the stored matrix seed are written one behind the other.
+use borrow.Author.Needs.{needs}
+use Rattle.keys.specs.Laws.Keys.{public-steps}
+use Rattle.keys.proofs.public_key_into.Statement.{statement}
+use Rattle.keys.proofs.public_key_into.Tie as tie
+
+returns : tie.Need-returns
+returns c =
+    let last = c .before .before in
+    let vector = last .before .before .before .before .before in
+    let stored = vector .before .before .before .before in
+    let start = stored .before .before .before .before .before in
+    let x = vector .vector-into in
+    public-steps (start .args .l) _ _ (x .last .1 .1 .1 .1 .0) _ (start .pre .pkLong) (x .kept .1 .1 .1 .1 .0) (stored .shake128-into .ensures)
+    (x .ensures) (last .copy-at .ensures)
+
+pub public-key-into-spec : {M : Type 1} → statement M
+public-key-into-spec =
+    tie.close
+    (tie.spec
+    (λ c. search needs)
+    (λ c κs. search needs)
+    (λ c. search needs)
+    (λ c. search needs)
+    (λ c. search needs)
+    (λ c. search needs)
+    (λ c. search needs)
+    (λ c κs. search needs)
+    (λ c. search needs)
+    (λ c κs. search needs)
+    (λ c. search needs)
+    returns)

@@ -1,0 +1,36 @@
+-- `keys::secret_key_into` meets its contract: the four parts are written one behind the other.
+use borrow.Author.Needs.{needs}
+use Rattle.keys.specs.Laws.Keys.{secret-steps}
+use Rattle.keys.proofs.secret_key_into.Statement.{statement}
+use Rattle.keys.proofs.secret_key_into.Tie as tie
+
+returns : tie.Need-returns
+returns c =
+    let last = c .before .before in
+    let hashed = last .before .before .before .before in
+    let hash = hashed .before .before .before in
+    let public = hash .before .before .before in
+    let plain = public .before .before .before .before in
+    let start = plain .before .before .before .before .before .before in
+    let x = plain .pack-into in
+    secret-steps (start .args .l) _ _ _ _ (x .last .1 .1 .0) (start .pre .skLong) (start .pre .zLong) (x .kept .1 .1 .0) (x .ensures)
+    (hash .hash256 .ensures) (public .copy-at .ensures) (hashed .copy-at2 .ensures) (last .copy-at3 .ensures)
+
+pub secret-key-into-spec : {M : Type 1} → statement M
+secret-key-into-spec =
+    tie.close
+    (tie.spec
+    (λ c. search needs)
+    (λ c. search needs)
+    (λ c. search needs)
+    (λ c. search needs)
+    (λ c. search needs)
+    (λ c κs. search needs)
+    (λ c κs. search needs)
+    (λ c κs. search needs)
+    (λ c. search needs)
+    (λ c κs. search needs)
+    (λ c. search needs)
+    (λ c κs. search needs)
+    (λ c. search needs)
+    returns)

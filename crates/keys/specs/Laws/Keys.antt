@@ -1,0 +1,85 @@
+-- Laws of the keys: the steps that make them, the lookup, and the parts and lengths of what was made.
+use Prim.Native.Nat.{ℕ, _+_, _-_, _*_}
+use mathlib.Core.Bool.{true}
+use mathlib.Core.List.{List, [], _++_, append-assoc}
+use mathlib.Core.Path.{_≡_, refl, sym, ap, _∙_}
+use native.Mathlib.Nat.{add-sub-cancel-left}
+use native.Mathlib.Omega.{arith}
+use lib.IntN.{ℤ}
+use lib.ListN.{length, take, drop, length-append, length-map}
+use borrow.Author.Tests.{eqb-true}
+use borrow.Rule.Slice.PartMut.{putMid, midOf}
+use Rattle.lists.specs.Strings.{placed}
+use Rattle.lists.specs.Laws.Parts.{written-none, written-part, written-copy, written-all}
+use Rattle.questions.specs.Answers.{earliest}
+use Rattle.questions.specs.Laws.Answers.{all-yes, accepted}
+use Rattle.sets.specs.declared.Params.{Params}
+use Rattle.sets.specs.Sets.{paramsOf}
+use Rattle.sets.specs.Laws.Rows.{row}
+use Rattle.answers.specs.Questions.{keygenQuestions}
+use Rattle.sponge.specs.Laws.Sponge.{length-sponge}
+use Rattle.sha3.specs.Hashes.{shake128, sha3-256}
+use Rattle.algebra.specs.Ring.{nat, residues}
+use Rattle.packing.specs.Packing.{packed}
+use Rattle.sampling.specs.Sampling.{secret}
+use Rattle.exchange.specs.Exchange.{roundedVector}
+use Rattle.exchange.specs.Laws.Exchange.{vector-secret}
+use Rattle.keys.specs.Keys.{publicKey, plainSecret, secretKey, keyPart, lookupQuestions, publicKeyOf}
+use Rattle.keys.specs.Promises.{Generated}
+use Rattle.keys.specs.Rooms.{KeyPair, Found}
+
+-- what stands in an output that is written part by part
+pub public-steps :
+    (l : ℕ) (seed old x : List ℕ) (s : List ℤ) {stored pk : List ℕ} → length old ≡ 320 * l + 32 →
+    length x ≡ length (midOf 0 (320 * l - 0) old) → stored ≡ shake128 seed 32 → x ≡ packed 10 (roundedVector true l stored s) →
+    pk ≡ placed (320 * l) stored (putMid 0 (320 * l - 0) old x) →
+    pk ≡ packed 10 (roundedVector true l (shake128 seed 32) s) ++ shake128 seed 32
+public-steps l seed old x s {stored} {pk} lo lx es ex ep =
+    let ls : length stored ≡ 32 = ap length es ∙ length-sponge 168 0x1f seed 32 in
+    let first = written-part {e = 320 * l} x (written-none old) (omega arith) (omega arith) lx in
+    let both = written-copy {e = 320 * l + 32} stored first (omega arith) (omega arith) in
+    ep ∙ written-all both (omega arith) ∙ rw (ex, es)
+
+pub secret-steps :
+    (l : ℕ) (s pk z old x : List ℕ) {hash first second sk : List ℕ} → length old ≡ 416 * l + (length pk + 64) → length z ≡ 32 →
+    length x ≡ length (midOf 0 (416 * l - 0) old) → x ≡ packed 13 s → hash ≡ sha3-256 pk →
+    first ≡ placed (416 * l) pk (putMid 0 (416 * l - 0) old x) → second ≡ placed (416 * l + length pk) hash first →
+    sk ≡ placed (416 * l + length pk + 32) z second → sk ≡ packed 13 s ++ (pk ++ (sha3-256 pk ++ z))
+secret-steps l s pk z old x {hash} {sk = sk} lo lz lx ex eh e1 e2 e3 =
+    let lh : length hash ≡ 32 = ap length eh ∙ length-sponge 136 6 pk 32 in
+    let h : ℕ = 416 * l + length pk in
+    let plain = written-part {e = 416 * l} x (written-none old) (omega arith) (omega arith) lx in
+    let public = written-copy {e = h} pk plain refl (omega arith) in
+    let hashed = written-copy {e = h + 32} hash public (omega arith) (omega arith) in
+    let whole = written-copy {e = h + 32 + 32} z hashed (omega arith) (omega arith) in
+    let done : sk ≡ ((x ++ pk) ++ hash) ++ z = rw (e3, e2, e1) (written-all whole (omega arith)) in
+    done ∙ simp append-assoc (rw (ex, eh))
+
+pub keygen-steps :
+    (p : Params) (matrixSeed secretSeed z : List ℕ) {s pk sk : List ℕ} → s ≡ residues 8192 (secret (p .l) (p .mu) secretSeed) →
+    pk ≡ packed 10 (roundedVector true (p .l) (shake128 matrixSeed 32) (nat s)) ++ shake128 matrixSeed 32 →
+    sk ≡ packed 13 s ++ (pk ++ (sha3-256 pk ++ z)) → KeyPair p matrixSeed secretSeed z pk sk
+unfolding publicKey plainSecret secretKey
+keygen-steps p matrixSeed secretSeed z {s} {pk} {sk} es ek ez =
+    let public : pk ≡ publicKey p matrixSeed secretSeed = ek ∙ rw (es, vector-secret) in
+    record { public = public; secret = ez ∙ rw (public, es) }
+
+-- with the work done an answer of 0 is what the call promises
+pub keygen-done :
+    (set : ℕ) (matrixSeed secretSeed z pk sk : List ℕ) {r : ℕ} {p : Params} {pk' sk' : List ℕ} → p ≡ paramsOf set → r ≡ 0 →
+    r ≡ earliest (keygenQuestions set (length matrixSeed) (length secretSeed) (length z) (length pk) (length sk)) →
+    KeyPair p matrixSeed secretSeed z pk' sk' → Generated set matrixSeed secretSeed z pk sk 0 pk' sk'
+keygen-done set matrixSeed secretSeed z pk sk is n a k =
+    record { answers = sym n ∙ a; public = rw is at (k .public); secret = rw is at (k .secret) }
+
+-- a lookup that no question refuses, and what it hands back
+pub found : (set sk : ℕ) → earliest (lookupQuestions set sk) ≡ 0 → Found (paramsOf set) sk
+found set sk e =
+    let y = all-yes (lookupQuestions set sk) refl refl e in
+    let w = row set (y .0) in
+    record { few = w .few; pkIs = w .pkIs; skIs = eqb-true sk (paramsOf set .sk) (y .1 .0) ∙ w .sums .skIs }
+
+pub lookup-part :
+    (set : ℕ) (sk : List ℕ) (p : Params) → p ≡ paramsOf set → earliest (lookupQuestions set (length sk)) ≡ 0 →
+    take (416 * p .l + p .pk - 416 * p .l) (drop (416 * p .l) sk) ≡ publicKeyOf set sk
+lookup-part set sk p e z = rw (e, add-sub-cancel-left) (accepted _ _ [] z)
