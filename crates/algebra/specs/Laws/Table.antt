@@ -26,26 +26,18 @@ pub coef-doubled :
     (n : ℕ) (a b : List ℤ) (k : ℕ) → k < n → coef n a b k ≡ sum n (λ i. at a i *ℤ doubled n (at b) (n - suc k + i))
 unfolding coef
 coef-doubled n a b k h =
-    ap₂ _+ℤ_ (sum-cong (suc k) _ F low) (sum-neg (n - suc k) _ ∙ sum-cong (n - suc k) _ (λ i. F (suc k + i)) high)
+    let F : ℕ → ℤ = λ i. at a i *ℤ doubled n (at b) (n - suc k + i) in
+    let all : n ≡ suc k + (n - suc k) = omega arith in
+    ap₂ _+ℤ_
+    (sum-cong (suc k) _ F (λ i hi.
+    let e : n - suc (n - suc k + i) ≡ k - i = omega arith in
+    ap (λ z. at a i *ℤ z) (sym (doubled-low n (at b) (n - suc k + i) (omega arith) ∙ ap (at b) e))))
+    (sum-neg (n - suc k) _ ∙ sum-cong (n - suc k) _ (λ i. F (suc k + i)) (λ i hi.
+    let e : n + n - suc (n - suc k + (suc k + i)) ≡ n - suc i = omega arith in
+    sym (mul-negℤ (at a (suc k + i)) (at b (n - suc i)))
+    ∙ ap (λ z. at a (suc k + i) *ℤ z)
+    (sym (doubled-high n (at b) (n - suc k + (suc k + i)) (omega arith) ∙ ap (λ (j : ℕ). negℤ (at b j)) e))))
     ∙ sym (ap (λ (t : ℕ). sum t F) all ∙ sum-split (suc k) (n - suc k) F)
-  where
-    F : ℕ → ℤ
-    F i = at a i *ℤ doubled n (at b) (n - suc k + i)
-
-    all : n ≡ suc k + (n - suc k)
-    all = omega arith
-
-    low : (i : ℕ) → i < suc k → at a i *ℤ at b (k - i) ≡ F i
-    low i hi =
-        let e : n - suc (n - suc k + i) ≡ k - i = omega arith in
-        ap (λ z. at a i *ℤ z) (sym (doubled-low n (at b) (n - suc k + i) (omega arith) ∙ ap (at b) e))
-
-    high : (i : ℕ) → i < n - suc k → negℤ (at a (suc k + i) *ℤ at b (n - suc i)) ≡ F (suc k + i)
-    high i hi =
-        let e : n + n - suc (n - suc k + (suc k + i)) ≡ n - suc i = omega arith in
-        sym (mul-negℤ (at a (suc k + i)) (at b (n - suc i)))
-        ∙ ap (λ z. at a (suc k + i) *ℤ z)
-        (sym (doubled-high n (at b) (n - suc k + (suc k + i)) (omega arith) ∙ ap (λ (j : ℕ). negℤ (at b j)) e))
 
 pub coef-table : (n : ℕ) (a b : List ℤ) (k : ℕ) → k < n → coef n a b k ≡ dot n a (take n (drop (n - suc k) (table n b)))
 unfolding dot table
