@@ -8,7 +8,7 @@ use lib.ListN.{length}
 use lib.Seq.{ext-getD}
 use Rattle.lists.specs.Laws.Lists.{from-at, length-from, from-cong}
 use Rattle.algebra.specs.Integers.{sum}
-use Rattle.algebra.specs.Ring.{at, coef, mul, inner}
+use Rattle.algebra.specs.Ring.{at, coef, inner}
 use Rattle.algebra.specs.Laws.Sums.{sum-cong, sum-reverse}
 use Rattle.algebra.specs.Laws.Module.{acts, adjoint}
 use Rattle.algebra.specs.Laws.Operators.{ops, laws, acts-below, act-coef}
@@ -18,28 +18,16 @@ pub coef-comm : (n : ℕ) (a b : List ℤ) (k : ℕ) → k < n → coef n a b k 
 unfolding coef
 coef-comm n a b k h =
     ap₂ _-ℤ_
-    (sum-reverse (suc k) _ ∙ sum-cong (suc k) _ (λ i. at b i *ℤ at a (k - i)) low)
-    (sum-reverse (n - suc k) _ ∙ sum-cong (n - suc k) _ (λ i. at b (suc k + i) *ℤ at a (n - suc i)) high)
-  where
-    low : (i : ℕ) → i < suc k → at a (suc k - suc i) *ℤ at b (k - (suc k - suc i)) ≡ at b i *ℤ at a (k - i)
-    low i hi =
-        let p : suc k - suc i ≡ k - i = omega arith in
-        let q : k - (k - i) ≡ i = omega arith in
-        rw (p, q) (*ℤ-comm (at a (k - i)) (at b i))
-
-    high :
-        (i : ℕ) → i < n - suc k →
-        at a (suc k + (n - suc k - suc i)) *ℤ at b (n - suc (n - suc k - suc i)) ≡ at b (suc k + i) *ℤ at a (n - suc i)
-    high i hi =
-        let p : suc k + (n - suc k - suc i) ≡ n - suc i = omega arith in
-        let q : n - suc (n - suc k - suc i) ≡ suc k + i = omega arith in
-        rw (p, q) (*ℤ-comm (at a (n - suc i)) (at b (suc k + i)))
+    (sum-reverse (suc k) _ ∙ sum-cong (suc k) _ (λ i. at b i *ℤ at a (k - i)) (λ i hi.
+    let p : suc k - suc i ≡ k - i = omega arith in
+    let q : k - (k - i) ≡ i = omega arith in
+    rw (p, q) (*ℤ-comm (at a (k - i)) (at b i))))
+    (sum-reverse (n - suc k) _ ∙ sum-cong (n - suc k) _ (λ i. at b (suc k + i) *ℤ at a (n - suc i)) (λ i hi.
+    let p : suc k + (n - suc k - suc i) ≡ n - suc i = omega arith in
+    let q : n - suc (n - suc k - suc i) ≡ suc k + i = omega arith in
+    rw (p, q) (*ℤ-comm (at a (n - suc i)) (at b (suc k + i)))))
 
 module _ (n : ℕ) where
-  pub mul-comm : (a b : List ℤ) → mul n a b ≡ mul n b a
-  unfolding mul
-  mul-comm a b = from-cong n (coef n a b) (coef n b a) (coef-comm n a b)
-
   module _ (l : ℕ) where
     pub at-inner : (a b : ℕ → List ℤ) (k : ℕ) → k < n → at (inner n l a b) k ≡ sum l (λ i. coef n (a i) (b i) k)
     unfolding inner
@@ -73,19 +61,16 @@ module _ (n : ℕ) where
       (l : ℕ) (A : ℕ → ℕ → List ℤ) (s s′ : ℕ → List ℤ) → ((i : ℕ) → length (s i) ≤ n) → ((i : ℕ) → length (s′ i) ≤ n) →
       inner n l (λ i. inner n l (λ j. A j i) s) s′ ≡ inner n l (λ j. inner n l (λ i. A j i) s′) s
   inner-adjoint l A s s′ ls ls′ =
-      ext-getD (pos 0) _ _ (length-inner l Aᵀs s′ ∙ sym (length-inner l As′ s))
-      (λ k hk. each k (omega (arith, hk, length-inner l Aᵀs s′)))
+      ext-getD (pos 0) _ _ (length-inner l Aᵀs s′ ∙ sym (length-inner l As′ s)) (λ k hk.
+      let h : k < n = omega (arith, length-inner l Aᵀs s′) in
+      inner-acts l Aᵀs s′ ls′ k h
+      ∙ acts-below n l s′ _ _ (λ i j hj. inner-acts l (λ r. A r i) s ls j hj) k h
+      ∙ ap (λ (f : ℕ → ℤ). f k) (adjoint (laws n) l l s s′ (λ j i. at (A j i)))
+      ∙ sym (acts-below n l s _ _ (λ j i hi. inner-acts l (λ r. A j r) s′ ls′ i hi) k h)
+      ∙ sym (inner-acts l As′ s ls k h))
     where
       Aᵀs : ℕ → List ℤ
       Aᵀs i = inner n l (λ j. A j i) s
 
       As′ : ℕ → List ℤ
       As′ j = inner n l (λ i. A j i) s′
-
-      each : (k : ℕ) → k < n → at (inner n l Aᵀs s′) k ≡ at (inner n l As′ s) k
-      each k h =
-          inner-acts l Aᵀs s′ ls′ k h
-          ∙ acts-below n l s′ _ _ (λ i j hj. inner-acts l (λ r. A r i) s ls j hj) k h
-          ∙ ap (λ (f : ℕ → ℤ). f k) (adjoint (laws n) l l s s′ (λ j i. at (A j i)))
-          ∙ sym (acts-below n l s _ _ (λ j i hi. inner-acts l (λ r. A j r) s′ ls′ i hi) k h)
-          ∙ sym (inner-acts l As′ s ls k h)

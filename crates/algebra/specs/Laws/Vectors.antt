@@ -1,5 +1,5 @@
 -- Laws of vectors as flat lists.
-use Prim.Native.Nat.{ℕ, zero, suc, _+_, _*_, _-_, _<_, _≤_}
+use Prim.Native.Nat.{ℕ, zero, suc, _+_, _*_, _<_, _≤_}
 use mathlib.Core.List.{List, [], _∷_, _++_, map, map-append}
 use mathlib.Core.Path.{_≡_, refl, _∙_, ap, ap₂}
 use native.Mathlib.Decide.{decLt}
@@ -8,8 +8,7 @@ use native.Mathlib.Numerals.{add-one}
 use native.Mathlib.Omega.{arith}
 use lib.ListN.{length, take, drop, length-append, length-take, length-drop}
 use lib.Seq.{take-append-le, drop-append-le, drop-at, take-all}
-use borrow.Rule.Slice.PartMut.{putMid, midOf}
-use Rattle.lists.specs.Laws.Parts.{put-next}
+use Rattle.lists.specs.Laws.Parts.{Written}
 use Rattle.algebra.specs.Ring.{poly, blocks}
 
 pub length-poly : {A : Type 0} (s : List A) (i : ℕ) → length (poly s i) ≤ 256
@@ -25,8 +24,11 @@ drop-map f zero s = refl
 drop-map f (suc n) [] = refl
 drop-map f (suc n) (x ∷ s) = drop-map f n s
 
+pub part-map : {A B : Type 0} (f : A → B) (a n : ℕ) (s : List A) → take n (drop a (map f s)) ≡ map f (take n (drop a s))
+part-map f a n s = ap (take n) (drop-map f a s) ∙ take-map f n (drop a s)
+
 pub poly-map : {A B : Type 0} (f : A → B) (s : List A) (i : ℕ) → poly (map f s) i ≡ map f (poly s i)
-poly-map f s i = ap (take 256) (drop-map f (256 * i) s) ∙ take-map f 256 (drop (256 * i) s)
+poly-map f s i = part-map f (256 * i) 256 s
 
 module _ {A : Type 0} where
   blocks-suc : (l : ℕ) (f : ℕ → List A) → blocks (suc l) f ≡ blocks l f ++ f l
@@ -78,9 +80,8 @@ unfolding blocks
 map-blocks g zero f = refl
 map-blocks g (suc l) f = map-append g (blocks l f) (f l) ∙ ap (λ t. t ++ map g (f l)) (map-blocks g l f)
 
--- where the first i blocks of w numbers are written, and block i is written next
-pub blocks-put :
-    (w i : ℕ) (f : ℕ → List ℕ) (s y : List ℕ) → w * i + w ≤ length s → length y ≡ length (midOf (w * i) (w * i + w - w * i) s) →
-    take (w * i) s ≡ blocks i f → y ≡ f i → take (w * (i + 1)) (putMid (w * i) (w * i + w - w * i) s y) ≡ blocks (i + 1) f
-blocks-put w i f s y h k p e =
-    rw (add-one, mul-suc w i, blocks-suc i f, ← e) (put-next (w * i) (w * i + w) s y (omega arith) h k (blocks i f) p)
+-- a list written from the front, block by block
+pub written-block :
+    (w i : ℕ) (f : ℕ → List ℕ) {N : ℕ} {s y : List ℕ} → y ≡ f i → Written N s (w * i + w) (blocks i f ++ y) →
+    Written N s (w * (i + 1)) (blocks (i + 1) f)
+written-block w i f e h = rw (add-one, mul-suc w i, blocks-suc i f, ← e) h

@@ -1,6 +1,6 @@
 -- `ring::dot` meets its contract: after i turns the sum is that of the first i products, modulo 65536.
-use Prim.Native.Nat.{ℕ, _≤_, _-_}
-use mathlib.Core.Path.{_≡_, _∙_, ap}
+use Prim.Native.Nat.{_≤_, _-_}
+use mathlib.Core.Path.{_≡_}
 use native.Mathlib.Omega.{arith}
 use borrow.Author.Needs.{needs}
 use lib.ListN.{length}
@@ -21,16 +21,10 @@ loop-holds : tie.Need-loop-holds Inv-loop μ-loop
 unfolding dot sum
 loop-holds c = search needs
 
-loop-again : tie.Need-loop-again Inv-loop μ-loop
-loop-again c =
-    let d = c .before .before .before .before .before in
-    let x = d .before .before .before .args in
-    omega (arith, dot-more (d .loop .i) (x .a .now) (x .w .now))
-
 returns : tie.Need-returns Inv-loop μ-loop
 returns c =
-    let x = c .before .before .before .before .args in
-    c .before .loop .inv .1 ∙ ap (λ (n : ℕ). modℤ (dot n (nat (x .a .now)) (nat (x .w .now))) 65536) (omega arith)
+    let e : c .before .loop .i ≡ length (c .before .before .before .before .args .a .now) = omega arith in
+    cc
 
 pub dot-spec : {M : Type 1} → statement M
 dot-spec =
@@ -47,5 +41,5 @@ dot-spec =
     (λ c κs. search needs)
     (λ c. search needs)
     (λ c. search needs)
-    loop-again
+    (λ c. (omega arith, search dot-more))
     returns)

@@ -23,19 +23,6 @@ Inv-loop2 b w₀ j₀ w j = (256 ≤ j) × Filled 512 w j (λ (j : ℕ). modℤ 
 abbrev μ-loop2 : tie.MeasureT-loop2
 μ-loop2 b w₀ j₀ w j = 512 - j
 
-loop-again : tie.Need-loop-again Inv-loop μ-loop Inv-loop2 μ-loop2
-loop-again c =
-    let d = c .before .before in
-    let b = d .before .before .args .b .now in
-    let j = d .loop .j in
-    (omega arith, fill-more (omega arith) (d .loop .inv .1) (place-low b j (omega arith) (omega (arith, c .shared-slice-known2 .given (255 - j)))))
-
-loop2-again : tie.Need-loop2-again Inv-loop μ-loop Inv-loop2 μ-loop2
-loop2-again c =
-    let d = c .before .before .before in
-    let b = d .before .before .before .before .args .b .now in
-    (omega arith, fill-more (omega arith) (d .loop2 .inv .1) (place-high b (d .loop2 .j) _ (omega arith) (omega arith) (c .wrapping-sub-u16 .ensures)))
-
 pub doubled-spec : {M : Type 1} → statement M
 doubled-spec =
     tie.close
@@ -52,7 +39,10 @@ doubled-spec =
     (λ c. search needs)
     (λ c. search needs)
     (λ c. search needs)
-    loop-again
+    (λ c.
+    let k = c .before .before .loop in
+    let fits = c .shared-slice-known2 .given (255 - k .j) in
+    (omega arith, fill-more (omega arith) (k .inv .1) (search place-low)))
     (λ c. (omega arith, c .before .loop .inv .1))
     (λ c. search needs)
     (λ c. search needs)
@@ -62,5 +52,5 @@ doubled-spec =
     (λ c. search needs)
     (λ c. search needs)
     (λ c. search needs)
-    loop2-again
+    (λ c. (omega arith, fill-more (omega arith) (c .before .before .before .loop2 .inv .1) (search place-high)))
     (λ c. fill-all (omega arith) (c .before .loop2 .inv .1) ∙ places (c .before .before .before .before .before .args .b .now)))

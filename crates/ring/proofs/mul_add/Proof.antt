@@ -18,19 +18,8 @@ Inv-loop a b acc p w out₀ k₀ out k = Filled 256 out k (λ (k : ℕ). modℤ 
 abbrev μ-loop : tie.MeasureT-loop
 μ-loop a b acc p w out₀ k₀ out k = 256 - k
 
-dot-requires : tie.Need-dot-requires Inv-loop μ-loop
-dot-requires c κs =
-    let d = c .before .before .before in
-    let s = d .before .before .before .before .before in
-    part-length (s .args .a .now) (s .args .b .now) (d .before .doubled .result) (d .loop .k) (s .pre .first) (d .before .doubled .ensures) (omega arith)
-
 loop-again : tie.Need-loop-again Inv-loop μ-loop
-loop-again c =
-    let d = c .before .before .before .before .before in
-    let s = d .before .before .before .before .before in
-    fill-more (omega arith) (d .loop .inv)
-    (add-coef (s .args .a .now) (s .args .b .now) (d .before .doubled .result) (d .loop .k) (s .pre .first) (d .before .doubled .ensures) (omega arith)
-    (s .args .t1) (c .before .dot .result) (c .wrapping-add-u16 .result) (c .before .dot .ensures) (c .wrapping-add-u16 .ensures))
+loop-again c = fill-more (omega arith) (c .before .before .before .before .before .loop .inv) (search add-coef)
 
 pub mul-add-spec : {M : Type 1} → statement M
 mul-add-spec =
@@ -49,7 +38,7 @@ mul-add-spec =
     (λ c. search needs)
     (λ c. search needs)
     (λ c. search needs)
-    dot-requires
+    (λ c κs. search part-length)
     (λ c κs. search needs)
     (λ c. search needs)
     (λ c. search needs)

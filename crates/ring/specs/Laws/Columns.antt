@@ -19,12 +19,13 @@ use Rattle.algebra.specs.Laws.Table.{doubled-low, doubled-high}
 
 -- the scalar product, one term more
 pub dot-more :
-    (i : ℕ) (a w : List ℕ) →
-    modℤ (dot (i + 1) (nat a) (nat w)) 65536 ≡ (modℤ (dot i (nat a) (nat w)) 65536 + getD a i 0 * getD w i 0 % 65536) % 65536
+    (i : ℕ) (a w : List ℕ) {s t r : ℕ} → s ≡ modℤ (dot i (nat a) (nat w)) 65536 → t ≡ getD a i 0 * getD w i 0 % 65536 →
+    r ≡ (s + t) % 65536 → r ≡ modℤ (dot (i + 1) (nat a) (nat w)) 65536
 unfolding dot
-dot-more i a w =
-    ap (λ z. modℤ z 65536) (sum-next i term ∙ ap (λ z. sum i term +ℤ z) (rw (at-nat a i, at-nat w i) refl))
-    ∙ sym (mod-add 65536 (omega arith) (sum i term) (pos (getD a i 0 * getD w i 0)))
+dot-more i a w p q e =
+    (rw (p, q) at e)
+    ∙ sym (ap (λ z. modℤ z 65536) (sum-next i term ∙ ap (λ z. sum i term +ℤ z) (rw (at-nat a i, at-nat w i) refl))
+    ∙ sym (mod-add 65536 (omega arith) (sum i term) (pos (getD a i 0 * getD w i 0))))
   where
     term : ℕ → ℤ
     term j = at (nat a) j *ℤ at (nat w) j

@@ -1,6 +1,6 @@
 -- `vectors::inner` meets its contract: after j turns acc is the sum of the first j products.
 use Prim.Native.Nat.{ℕ, _≤_, _+_, _*_, _-_}
-use mathlib.Core.Path.{_≡_, refl, _∙_, ap}
+use mathlib.Core.Path.{_≡_, refl}
 use native.Mathlib.Omega.{arith}
 use borrow.Author.Needs.{needs}
 use lib.ListN.{length, length-take, length-drop}
@@ -40,10 +40,8 @@ loop-again c =
 
 returns : tie.Need-returns Inv-loop μ-loop
 returns c =
-    let x = c .before .before .before .before .args in
-    c .before .loop .inv .0
-    ∙ ap (λ (n : ℕ). residues 65536 (inner 256 n (λ (i : ℕ). nat (poly (x .a .now) (x .start + x .step * i))) (λ (i : ℕ). poly (nat (x .s .now)) i)))
-    (omega arith)
+    let e : c .before .loop .j ≡ c .before .before .before .before .args .l = omega arith in
+    cc
 
 pub inner-spec : {M : Type 1} → statement M
 inner-spec =

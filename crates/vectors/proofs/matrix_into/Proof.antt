@@ -1,12 +1,12 @@
 -- `vectors::matrix_into` meets its contract: each turn writes the next polynomial of the product.
-use Prim.Native.Nat.{ℕ, _≤_, _+_, _*_, _-_}
-use mathlib.Core.Path.{_≡_, refl, _∙_, ap}
+use Prim.Native.Nat.{_*_, _-_}
+use mathlib.Core.Path.{_≡_, refl}
 use native.Mathlib.Omega.{arith}
 use borrow.Author.Needs.{needs}
-use lib.ListN.{length, take, length-take, length-drop}
-use Rattle.lists.specs.Laws.Parts.{put-long, put-all}
+use lib.ListN.{length, length-take, length-drop}
+use Rattle.lists.specs.Laws.Parts.{Written, written-none, written-part, written-all}
 use Rattle.algebra.specs.Ring.{nat, blocks}
-use Rattle.algebra.specs.Laws.Vectors.{blocks-put}
+use Rattle.algebra.specs.Laws.Vectors.{written-block}
 use Rattle.vectors.specs.Vectors.{side, matrixRow, matrixVector}
 use Rattle.vectors.specs.Laws.Turns.{row-values, row-room}
 use Rattle.vectors.proofs.matrix_into.Statement.{statement}
@@ -14,30 +14,24 @@ use Rattle.vectors.proofs.matrix_into.Tie as tie
 
 abbrev Inv-loop : tie.InvT-loop
 Inv-loop transposed l matrix s out₀ row column i₀ out i =
-    (i ≤ l) × (length out ≡ length out₀) × (take (256 * i) out ≡ blocks i (matrixRow l (side transposed l matrix) (nat s)))
+    Written (length out₀) out (256 * i) (blocks i (matrixRow l (side transposed l matrix) (nat s)))
 
 abbrev μ-loop : tie.MeasureT-loop
 μ-loop transposed l matrix s out₀ row column i₀ out i = l - i
 
 loop-holds : tie.Need-loop-holds Inv-loop μ-loop
 unfolding blocks
-loop-holds c = (omega arith, refl, refl)
+loop-holds c = written-none _
 
 loop-again : tie.Need-loop-again Inv-loop μ-loop
 loop-again c =
     let k = c .before .before .before .before .before .before in
     let s = k .before .before .before .before .before .before in
     let x = s .args in
-    let i = k .loop .i in
-    let h : 256 * i + 256 ≤ length (k .loop .out) = omega (arith, s .pre .room) in
-    let y = c .before .before .reduce .last .1 .1 .0 in
-    let kept = c .before .before .reduce .kept .1 .1 .0 in (
-      omega arith,
-      put-long (256 * i) (256 * i + 256) (k .loop .out) y (omega arith) h kept ∙ k .loop .inv .1,
-      blocks-put 256 i _ (k .loop .out) y h kept (k .loop .inv .2)
-          (row-values (x .transposed) (x .l) i (k .before .before .stride .ensures) (k .before .stride2 .ensures) (x .matrix .now) (x .s .now)
-          (c .before .before .before .before .inner .ensures) (c .before .before .reduce .ensures)),
-    )
+    written-block 256 (k .loop .i) _
+    (row-values (x .transposed) (x .l) (k .loop .i) (k .before .before .stride .ensures) (k .before .stride2 .ensures) (x .matrix .now) (x .s .now)
+    (c .before .before .before .before .inner .ensures) (c .before .before .reduce .ensures))
+    (written-part _ (k .loop .inv) (omega arith) (omega (arith, s .pre .room)) (c .before .before .reduce .kept .1 .1 .0))
 
 mul-inner : tie.Need-mul-inner Inv-loop μ-loop
 mul-inner c =
@@ -54,12 +48,10 @@ reduce-requires c κs =
 returns : tie.Need-returns Inv-loop μ-loop
 unfolding matrixVector
 returns c =
-    let k = c .before in
-    let s = k .before .before .before .before .before .before in
-    let x = s .args in
-    let e : k .loop .i ≡ x .l = omega arith in
-    put-all (256 * k .loop .i) (k .loop .out) _ (omega (arith, s .pre .room)) (k .loop .inv .2)
-    ∙ ap (λ (n : ℕ). blocks n (matrixRow (x .l) (side (x .transposed) (x .l) (x .matrix .now)) (nat (x .s .now)))) e
+    let s = c .before .before .before .before .before .before .before in
+    let e : c .before .loop .i ≡ s .args .l = omega (arith, s .pre .room) in
+    let w = written-all (c .before .loop .inv) (omega (arith, s .pre .room)) in
+    cc
 
 pub matrix-into-spec : {M : Type 1} → statement M
 matrix-into-spec =
