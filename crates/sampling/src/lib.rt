@@ -3,12 +3,15 @@ ghost use mathlib.Core.Path.{_≡_};
 ghost use mathlib.Core.List.{map};
 ghost use Prim.Native.Nat.{_≤_};
 ghost use lib.ListN.{length};
+ghost use Rattle.questions.specs.Answers.{earliest};
 ghost use Rattle.algebra.specs.Ring.{residues};
 ghost use Rattle.packing.specs.Packing.{unpacked};
-ghost use Rattle.packing.specs.Promises.{Fills};
-ghost use Rattle.sha3.specs.Sponge.{shake128};
-ghost use Rattle.sampling.specs.Sampling.{matrix, secret, genMatrixAnswer, genSecretAnswer};
-ghost use Rattle.sampling.specs.Promises.{GenMatrix, GenSecret, MatrixRoom, SecretRoom, weighed};
+ghost use Rattle.packing.specs.Rooms.{Fills};
+ghost use Rattle.sha3.specs.Hashes.{shake128};
+ghost use Rattle.sampling.specs.Sampling.{matrix, secret, genMatrixQuestions, genSecretQuestions};
+ghost use Rattle.sampling.specs.Promises.{GenMatrix, GenSecret};
+ghost use Rattle.sampling.specs.Rooms.{MatrixRoom, SecretRoom};
+ghost use Rattle.sampling.specs.Laws.Halves.{weighed};
 use questions::ask;
 use sets::set_params;
 
@@ -66,21 +69,19 @@ pub fn secret_into(l: usize, mu: usize, seed: &[u8], output: &mut [u16])
 }
 
 fn gen_matrix_answer(set: u32, seed: usize, matrix: usize) -> u8
-    ensures { λ r. ⌜ r ≡ genMatrixAnswer set seed matrix ⌝ }
+    ensures { λ r. ⌜ r ≡ earliest (genMatrixQuestions set seed matrix) ⌝ }
 {
     let p = set_params(set);
-    let q9 = ask(matrix == 256 * p.l * p.l, 9, 0);
-    let q3 = ask(seed == 32, 3, q9);
-    ask(0 < p.l, 1, q3)
+    let n = 256 * p.l * p.l;
+    ask(0 < p.l, 1, ask(seed == 32, 3, ask(matrix == n, 9, 0)))
 }
 
 fn gen_secret_answer(set: u32, seed: usize, secret: usize) -> u8
-    ensures { λ r. ⌜ r ≡ genSecretAnswer set seed secret ⌝ }
+    ensures { λ r. ⌜ r ≡ earliest (genSecretQuestions set seed secret) ⌝ }
 {
     let p = set_params(set);
-    let q9 = ask(secret == 256 * p.l, 9, 0);
-    let q3 = ask(seed == 32, 3, q9);
-    ask(0 < p.l, 1, q3)
+    let n = 256 * p.l;
+    ask(0 < p.l, 1, ask(seed == 32, 3, ask(secret == n, 9, 0)))
 }
 
 // The matrix from its seed: Q1, Q3, Q9.

@@ -1,0 +1,48 @@
+-- An answer of 0 gives the inner forms what they ask, and with the work done it is what the call promises.
+use Prim.Native.Nat.{ℕ, _*_}
+use mathlib.Core.List.{List}
+use mathlib.Core.Path.{_≡_, refl}
+use native.Mathlib.Omega.{arith}
+use lib.ListN.{length}
+use borrow.Author.Needs.{needs}
+use borrow.Author.Tests.{eqb-true}
+use Rattle.questions.specs.Answers.{earliest}
+use Rattle.questions.specs.Laws.Answers.{all-yes, wrote}
+use Rattle.sets.specs.declared.Params.{Params}
+use Rattle.sets.specs.Sets.{paramsOf}
+use Rattle.sets.specs.Laws.Rows.{row}
+use Rattle.packing.specs.Rooms.{Fills}
+use Rattle.algebra.specs.Ring.{residues}
+use Rattle.sampling.specs.Sampling.{matrix, secret, genMatrixQuestions, genSecretQuestions}
+use Rattle.sampling.specs.Promises.{GenMatrix, GenSecret}
+use Rattle.sampling.specs.Rooms.{MatrixRoom, SecretRoom}
+
+-- the places of a secret are numbers of mu bits that fill its bytes
+pub secret-fills : (l mu out n : ℕ) → SecretRoom l mu out → n ≡ 32 * l * mu → Fills mu out n
+secret-fills l mu out n r e = record {
+  least = r .pieces .least;
+  most = r .pieces .most;
+  fills = rw (r .places, e) (omega arith);
+  fours = rw e (omega arith);
+}
+
+module _ (set : ℕ) (seed out : List ℕ) {r : ℕ} {p : Params} (is : p ≡ paramsOf set) (z : r ≡ 0) where
+  module _ (a : r ≡ earliest (genMatrixQuestions set (length seed) (length out))) where
+    pub matrix-room : MatrixRoom (p .l) (length out)
+    matrix-room =
+        let y = all-yes (genMatrixQuestions set (length seed) (length out)) refl a z in
+        let w = row set (y .0) in
+        rw is (search (needs, eqb-true))
+
+    pub matrix-done : {out' : List ℕ} → out' ≡ matrix (p .l) seed → GenMatrix set seed out 0 out'
+    matrix-done e = wrote a z (rw is at e)
+
+  module _ (a : r ≡ earliest (genSecretQuestions set (length seed) (length out))) where
+    pub secret-room : SecretRoom (p .l) (p .mu) (length out)
+    secret-room =
+        let y = all-yes (genSecretQuestions set (length seed) (length out)) refl a z in
+        let w = row set (y .0) in
+        rw is (search (needs, eqb-true))
+
+    pub secret-done : {out' : List ℕ} → out' ≡ residues 8192 (secret (p .l) (p .mu) seed) → GenSecret set seed out 0 out'
+    secret-done e = wrote a z (rw is at e)
