@@ -1,5 +1,4 @@
-pub mod Rounding
 pub mod Products
 pub mod Promises
-pub mod Steps
+pub mod Rooms
 pub mod Laws

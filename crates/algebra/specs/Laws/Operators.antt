@@ -5,11 +5,11 @@ use mathlib.Core.List.{List, [], _∷_}
 use mathlib.Core.Path.{_≡_, refl, sym, _∙_, ap, ap₂, fun-ext}
 use native.Mathlib.Omega.{arith}
 use lib.IntN.{ℤ, pos, negℤ, _+ℤ_, _*ℤ_, +ℤ-assoc, +ℤ-comm, +ℤ-idr, *ℤ-zero, zero-*ℤ, negℤ-+ℤ}
-use lib.ListN.{length, List·getD-eq-default}
+use lib.ListN.{length}
 use Rattle.algebra.specs.Integers.{sum}
 use Rattle.algebra.specs.Ring.{at, coef}
 use Rattle.algebra.specs.Laws.Whole.{mul-addℤ, mul-negℤ, mul-leftℤ}
-use Rattle.algebra.specs.Laws.Sums.{sum-cong, sum-front, sum-neg, sum-longer}
+use Rattle.algebra.specs.Laws.Sums.{sum-cong, sum-none, sum-front, sum-neg}
 use Rattle.algebra.specs.Columns.{doubled}
 use Rattle.algebra.specs.Laws.Table.{doubled-low, doubled-high, coef-doubled}
 use Rattle.algebra.specs.Laws.Module.{Ops, Laws, act, acts}
@@ -91,22 +91,16 @@ module _ (n : ℕ) where
       ap (λ (j : ℕ). c i *ℤ doubled n f j) e)
 
   act-doubled :
-      (a : List ℤ) (f : ℕ → ℤ) → length a ≤ n → (k : ℕ) → k < n →
-      act (ops n) a f k ≡ sum (length a) (λ i. at a i *ℤ doubled n f (n - suc k + i))
-  unfolding act sum
-  act-doubled [] f la k h = refl
-  act-doubled (a ∷ as′) f la k h =
+      (a : List ℤ) (f : ℕ → ℤ) (r : ℕ) → length a ≤ r → r ≤ n → (k : ℕ) → k < n →
+      act (ops n) a f k ≡ sum r (λ i. at a i *ℤ doubled n f (n - suc k + i))
+  unfolding act
+  act-doubled [] f r la hr k h = sym (sum-none r _ (λ i. zero-*ℤ (doubled n f (n - suc k + i))))
+  act-doubled (a ∷ as′) f zero la hr k h = absurd (omega arith)
+  act-doubled (a ∷ as′) f (suc r) la hr k h =
       ap₂ _+ℤ_ (ap (λ z. a *ℤ z) (doubled-last f k h))
-      (shift-below (act (ops n) as′ f) (λ j. sum (length as′) (λ i. at as′ i *ℤ doubled n f (n - suc j + i)))
-      (act-doubled as′ f (omega arith)) k h
-      ∙ shift-doubled (length as′) (at as′) f (omega arith) k h)
-      ∙ sym (sum-front (length as′) (λ i. at (a ∷ as′) i *ℤ doubled n f (n - suc k + i)))
+      (shift-below (act (ops n) as′ f) _ (act-doubled as′ f r (omega arith) (omega arith)) k h ∙ shift-doubled r (at as′) f hr k h)
+      ∙ sym (sum-front r (λ i. at (a ∷ as′) i *ℤ doubled n f (n - suc k + i)))
 
   -- the action on the coefficients of b has those of the product
   pub act-coef : (a b : List ℤ) → length a ≤ n → (k : ℕ) → k < n → act (ops n) a (at b) k ≡ coef n a b k
-  act-coef a b la k h =
-      let F : ℕ → ℤ = λ i. at a i *ℤ doubled n (at b) (n - suc k + i) in
-      act-doubled a (at b) la k h
-      ∙ sum-longer (length a) n F la
-      (λ i hi. ap (λ z. z *ℤ doubled n (at b) (n - suc k + i)) (List·getD-eq-default a (pos 0) hi) ∙ zero-*ℤ (doubled n (at b) (n - suc k + i)))
-      ∙ sym (coef-doubled n a b k h)
+  act-coef a b la k h = act-doubled a (at b) n la (omega arith) k h ∙ sym (coef-doubled n a b k h)

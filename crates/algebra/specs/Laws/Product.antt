@@ -8,7 +8,7 @@ use lib.ListN.{length}
 use lib.Seq.{ext-getD}
 use Rattle.lists.specs.Laws.Lists.{from-at, length-from, from-cong}
 use Rattle.algebra.specs.Integers.{sum}
-use Rattle.algebra.specs.Ring.{at, coef, mul, inner}
+use Rattle.algebra.specs.Ring.{at, coef, inner}
 use Rattle.algebra.specs.Laws.Sums.{sum-cong, sum-reverse}
 use Rattle.algebra.specs.Laws.Module.{acts, adjoint}
 use Rattle.algebra.specs.Laws.Operators.{ops, laws, acts-below, act-coef}
@@ -36,10 +36,6 @@ coef-comm n a b k h =
         rw (p, q) (*ℤ-comm (at a (n - suc i)) (at b (suc k + i)))
 
 module _ (n : ℕ) where
-  pub mul-comm : (a b : List ℤ) → mul n a b ≡ mul n b a
-  unfolding mul
-  mul-comm a b = from-cong n (coef n a b) (coef n b a) (coef-comm n a b)
-
   module _ (l : ℕ) where
     pub at-inner : (a b : ℕ → List ℤ) (k : ℕ) → k < n → at (inner n l a b) k ≡ sum l (λ i. coef n (a i) (b i) k)
     unfolding inner

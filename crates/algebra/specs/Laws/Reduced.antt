@@ -18,6 +18,7 @@ use Rattle.algebra.specs.Laws.Residues.{same-mul, same-sum, same-residue
 use Rattle.algebra.specs.Columns.{doubled, table, dot}
 use Rattle.algebra.specs.Laws.Table.{coef-doubled, coef-table}
 use Rattle.algebra.specs.Laws.Product.{at-inner}
+use Rattle.algebra.specs.Laws.Vectors.{part-map}
 
 pub at-nat : (a : List ℕ) (k : ℕ) → at (nat a) k ≡ pos (getD a k 0)
 at-nat a k = List·getD-map pos a k 0
@@ -63,16 +64,10 @@ module _ (m : ℕ) (hm : 0 < m) (n : ℕ) where
       modℤ (dot n a (nat (take n (drop (n - suc k) (residues m (table n b)))))) m ≡ modℤ (coef n a b k) m
   unfolding dot
   column-coef a b k h =
-      mod-of m hm (same-sum n (λ i hi. same-mul (same-refl (at a i)) (one i hi)))
+      let t = take n (drop (n - suc k) (table n b)) in
+      rw (part-map (λ z. modℤ z m) (n - suc k) n (table n b))
+      (mod-of m hm (same-sum n (λ i hi. same-mul (same-refl (at a i)) (same-at m hm (nat (residues m t)) t (residues-nat m hm t) i))))
       ∙ ap (λ z. modℤ z m) (sym (coef-table n a b k h))
-    where
-      t : List ℤ
-      t = drop (n - suc k) (table n b)
-
-      one : (i : ℕ) → i < n → Same m (at (nat (take n (drop (n - suc k) (residues m (table n b))))) i) (at t i)
-      one i hi =
-          rw (at-nat, getD-take, getD-drop (n - suc k) (residues m (table n b)) i 0, at-residues, getD-drop (n - suc k) (table n b) i (pos 0))
-          (same-sym (same-residue m hm (at (table n b) (n - suc k + i))))
 
   -- one product more
   pub inner-more :
@@ -80,19 +75,11 @@ module _ (m : ℕ) (hm : 0 < m) (n : ℕ) where
       from n (λ k. modℤ (at (nat acc) k +ℤ coef n (a l) (b l) k) m) ≡ residues m (inner n (l + 1) a b)
   unfolding inner
   inner-more l a b acc e =
+      let same = same-at m hm (nat acc) (inner n l a b) (ap (λ (s : List ℕ). residues m (nat s)) e ∙ residues-nat m hm (inner n l a b)) in
       from-cong n _ _ (λ k h.
-      ap (λ z. modℤ (z +ℤ coef n (a l) (b l) k) m) (old k h)
-      ∙ mod-of m hm (same-add (same-sym (same-residue m hm (part k))) (same-refl (coef n (a l) (b l) k)))
+      mod-of m hm (same-add (rw (at-inner n l a b k h) at (same k)) (same-refl (coef n (a l) (b l) k)))
       ∙ ap (λ z. modℤ z m) (sym (sum-next l (λ i. coef n (a i) (b i) k))))
       ∙ sym (map-from (λ z. modℤ z m) n (λ k. sum (l + 1) (λ i. coef n (a i) (b i) k)))
-    where
-      part : ℕ → ℤ
-      part k = sum l (λ i. coef n (a i) (b i) k)
-
-      old : (k : ℕ) → k < n → at (nat acc) k ≡ pos (modℤ (part k) m)
-      old k h =
-          at-nat acc k
-          ∙ ap pos (ap (λ (s : List ℕ). getD s k 0) e ∙ at-residues m (inner n l a b) k ∙ ap (λ z. modℤ z m) (at-inner n l a b k h))
 
 -- the inner product modulo m is that of any factors with the same residues
 pub inner-residues :
@@ -107,15 +94,8 @@ inner-residues m hm n l a a′ b b′ p q =
 
 four : (w x y z : ℤ) → (w +ℤ x) +ℤ (y +ℤ z) ≡ (w +ℤ y) +ℤ (x +ℤ z)
 four w x y z =
-    eqℤ _ _ (omega (
-      arith,
-      add-split (w +ℤ x) (y +ℤ z),
-      add-split w x,
-      add-split y z,
-      add-split (w +ℤ y) (x +ℤ z),
-      add-split w y,
-      add-split x z,
-    ))
+    let a = add-split in
+    eqℤ _ _ (omega (arith, a (w +ℤ x) (y +ℤ z), a w x, a y z, a (w +ℤ y) (x +ℤ z), a w y, a x z))
 
 -- an equation c a = b + d modulo m of the coefficients of vectors holds of their inner products with s
 module _ {m : ℕ} (c : ℤ) where

@@ -67,15 +67,7 @@ module _ {m : ℕ} where
   same-scale c {x} {x′} d = record {
     less = up c * d .less + dn c * d .more;
     more = up c * d .more + dn c * d .less;
-    eq = omega (
-      arith,
-      ap (λ (t : ℕ). up c * t) (d .eq),
-      ap (λ (t : ℕ). dn c * t) (d .eq),
-      up-mul c x,
-      dn-mul c x,
-      up-mul c x′,
-      dn-mul c x′,
-    );
+    eq = simp (up-mul, dn-mul) (omega (arith, ap (λ (t : ℕ). up c * t) (d .eq), ap (λ (t : ℕ). dn c * t) (d .eq)));
   }
 
   pub same-mul : {x x′ y y′ : ℤ} → Same m x x′ → Same m y y′ → Same m (x *ℤ y) (x′ *ℤ y′)

@@ -17,6 +17,11 @@ unfolding sum
 sum-cong zero f g e = refl
 sum-cong (suc m) f g e = ap₂ _+ℤ_ (sum-cong m f g (λ i h. e i (omega arith))) (e m (omega arith))
 
+pub sum-none : (m : ℕ) (f : ℕ → ℤ) → ((i : ℕ) → f i ≡ pos 0) → sum m f ≡ pos 0
+unfolding sum
+sum-none zero f e = refl
+sum-none (suc m) f e = ap₂ _+ℤ_ (sum-none m f e) (e m)
+
 -- the first term apart
 pub sum-front : (m : ℕ) (f : ℕ → ℤ) → sum (suc m) f ≡ f 0 +ℤ sum m (λ i. f (suc i))
 unfolding sum
@@ -42,14 +47,3 @@ pub sum-neg : (m : ℕ) (f : ℕ → ℤ) → negℤ (sum m f) ≡ sum m (λ i. 
 unfolding sum
 sum-neg zero f = refl
 sum-neg (suc m) f = negℤ-+ℤ (sum m f) (f m) ∙ ap (λ z. z +ℤ negℤ (f m)) (sum-neg m f)
-
--- terms of zero at the end
-pub sum-longer : (m r : ℕ) (f : ℕ → ℤ) → m ≤ r → ((i : ℕ) → m ≤ i → f i ≡ pos 0) → sum m f ≡ sum r f
-unfolding sum
-sum-longer m r f h e =
-    let s : r ≡ m + (r - m) = omega arith in
-    sym (ap (λ (t : ℕ). sum t f) s ∙ sum-split m (r - m) f ∙ ap (λ z. sum m f +ℤ z) (none (r - m)) ∙ +ℤ-idr (sum m f))
-  where
-    none : (t : ℕ) → sum t (λ i. f (m + i)) ≡ pos 0
-    none zero = refl
-    none (suc t) = ap₂ _+ℤ_ (none t) (e (m + t) (omega arith))

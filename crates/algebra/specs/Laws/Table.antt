@@ -1,11 +1,11 @@
 -- A coefficient of the ring product is one sum of n terms: the scalar product of a with a part of the doubled table of b.
 use Prim.Native.Nat.{ℕ, suc, _+_, _-_, _<_, _≤_}
 use mathlib.Core.List.{List}
-use mathlib.Core.Path.{_≡_, sym, _∙_, ap, ap₂}
+use mathlib.Core.Path.{_≡_, refl, sym, _∙_, ap, ap₂}
 use native.Mathlib.Omega.{arith}
 use lib.IntN.{ℤ, pos, negℤ, _+ℤ_, _*ℤ_}
-use lib.ListN.{drop}
-use lib.Seq.{getD-drop}
+use lib.ListN.{take, drop}
+use lib.Seq.{getD-take, getD-drop}
 use borrow.Author.Tests.{lt-ltb, le-ltb}
 use Rattle.lists.specs.Lists.{from}
 use Rattle.lists.specs.Laws.Lists.{from-at}
@@ -48,9 +48,8 @@ coef-doubled n a b k h =
         ∙ ap (λ z. at a (suc k + i) *ℤ z)
         (sym (doubled-high n (at b) (n - suc k + (suc k + i)) (omega arith) ∙ ap (λ (j : ℕ). negℤ (at b j)) e))
 
-pub coef-table : (n : ℕ) (a b : List ℤ) (k : ℕ) → k < n → coef n a b k ≡ dot n a (drop (n - suc k) (table n b))
+pub coef-table : (n : ℕ) (a b : List ℤ) (k : ℕ) → k < n → coef n a b k ≡ dot n a (take n (drop (n - suc k) (table n b)))
 unfolding dot table
 coef-table n a b k h =
     coef-doubled n a b k h
-    ∙ sum-cong n _ _ (λ i hi. ap (λ z. at a i *ℤ z) (sym (getD-drop (n - suc k) (from (n + n) (doubled n (at b))) i (pos 0)
-    ∙ from-at (n + n) (doubled n (at b)) (pos 0) (n - suc k + i) (omega arith))))
+    ∙ sum-cong n _ _ (λ i hi. rw (getD-take, getD-drop, from-at (n + n) (doubled n (at b)) (pos 0) (n - suc k + i) (omega arith)) refl)

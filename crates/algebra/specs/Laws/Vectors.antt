@@ -25,8 +25,11 @@ drop-map f zero s = refl
 drop-map f (suc n) [] = refl
 drop-map f (suc n) (x ∷ s) = drop-map f n s
 
+pub part-map : {A B : Type 0} (f : A → B) (a n : ℕ) (s : List A) → take n (drop a (map f s)) ≡ map f (take n (drop a s))
+part-map f a n s = ap (take n) (drop-map f a s) ∙ take-map f n (drop a s)
+
 pub poly-map : {A B : Type 0} (f : A → B) (s : List A) (i : ℕ) → poly (map f s) i ≡ map f (poly s i)
-poly-map f s i = ap (take 256) (drop-map f (256 * i) s) ∙ take-map f 256 (drop (256 * i) s)
+poly-map f s i = part-map f (256 * i) 256 s
 
 module _ {A : Type 0} where
   blocks-suc : (l : ℕ) (f : ℕ → List A) → blocks (suc l) f ≡ blocks l f ++ f l

@@ -55,18 +55,9 @@ dn-mul (negsuc a) (negsuc b) = omega arith
 -- the laws of a ring that `lib.IntN` lacks
 pub mul-addℤ : (x y z : ℤ) → x *ℤ (y +ℤ z) ≡ x *ℤ y +ℤ x *ℤ z
 mul-addℤ x y z =
-    eqℤ _ _ (omega (
-      arith,
-      up-mul x (y +ℤ z),
-      dn-mul x (y +ℤ z),
-      add-split (x *ℤ y) (x *ℤ z),
-      up-mul x y,
-      up-mul x z,
-      dn-mul x y,
-      dn-mul x z,
-      ap (λ (t : ℕ). up x * t) (add-split y z),
-      ap (λ (t : ℕ). dn x * t) (add-split y z),
-    ))
+    let u = ap (λ (t : ℕ). up x * t) (add-split y z) in
+    let d = ap (λ (t : ℕ). dn x * t) (add-split y z) in
+    eqℤ _ _ (simp (up-mul, dn-mul) (omega (arith, simp (up-mul, dn-mul) at (add-split (x *ℤ y) (x *ℤ z)))))
 
 pub mul-negℤ : (x y : ℤ) → x *ℤ negℤ y ≡ negℤ (x *ℤ y)
 mul-negℤ x y = eqℤ _ _ (simp (up-neg, dn-neg, up-mul, dn-mul) (omega arith))

@@ -7,7 +7,7 @@ use lib.ListN.{length}
 use Rattle.algebra.specs.Integers.{modℤ, sum}
 use Rattle.algebra.specs.Ring.{nat}
 use Rattle.algebra.specs.Columns.{dot}
-use Rattle.ring.specs.Steps.{dot-more}
+use Rattle.ring.specs.Laws.Columns.{dot-more}
 use Rattle.ring.proofs.dot.Statement.{statement}
 use Rattle.ring.proofs.dot.Tie as tie
 

@@ -7,7 +7,7 @@ use Rattle.lists.specs.Laws.Fill.{Filled, fill-none, fill-more, fill-all}
 use Rattle.algebra.specs.Integers.{modℤ}
 use Rattle.algebra.specs.Ring.{at, nat}
 use Rattle.algebra.specs.Columns.{doubled}
-use Rattle.ring.specs.Steps.{place-low, place-high, places}
+use Rattle.ring.specs.Laws.Columns.{place-low, place-high, places}
 use Rattle.ring.proofs.doubled.Statement.{statement}
 use Rattle.ring.proofs.doubled.Tie as tie
 

@@ -8,7 +8,7 @@ use lib.ListN.{length-take}
 use Rattle.lists.specs.Laws.Fill.{Filled, fill-none, fill-more, fill-all}
 use Rattle.algebra.specs.Integers.{modℤ}
 use Rattle.algebra.specs.Ring.{at, coef, nat}
-use Rattle.ring.specs.Steps.{part-length, add-coef}
+use Rattle.ring.specs.Laws.Columns.{part-length, add-coef}
 use Rattle.ring.proofs.mul_add.Statement.{statement}
 use Rattle.ring.proofs.mul_add.Tie as tie
 
@@ -22,14 +22,14 @@ dot-requires : tie.Need-dot-requires Inv-loop μ-loop
 dot-requires c κs =
     let d = c .before .before .before in
     let s = d .before .before .before .before .before in
-    part-length (s .args .a .now) (s .args .b .now) (d .before .doubled .result) (d .loop .k) (s .pre .0) (d .before .doubled .ensures) (omega arith)
+    part-length (s .args .a .now) (s .args .b .now) (d .before .doubled .result) (d .loop .k) (s .pre .first) (d .before .doubled .ensures) (omega arith)
 
 loop-again : tie.Need-loop-again Inv-loop μ-loop
 loop-again c =
     let d = c .before .before .before .before .before in
     let s = d .before .before .before .before .before in
     fill-more (omega arith) (d .loop .inv)
-    (add-coef (s .args .a .now) (s .args .b .now) (d .before .doubled .result) (d .loop .k) (s .pre .0) (d .before .doubled .ensures) (omega arith)
+    (add-coef (s .args .a .now) (s .args .b .now) (d .before .doubled .result) (d .loop .k) (s .pre .first) (d .before .doubled .ensures) (omega arith)
     (s .args .t1) (c .before .dot .result) (c .wrapping-add-u16 .result) (c .before .dot .ensures) (c .wrapping-add-u16 .ensures))
 
 pub mul-add-spec : {M : Type 1} → statement M

@@ -1,14 +1,11 @@
--- `ring::mul_answer` meets its contract: the questions are asked in the definition's order.
+-- `ring::mul_answer` meets its contract: it asks the questions of the definition.
 use borrow.Author.Needs.{needs}
-use Rattle.ring.specs.Products.{mulAnswer}
+use Rattle.questions.specs.Answers.{earliest}
 use Rattle.ring.proofs.mul_answer.Statement.{statement}
 use Rattle.ring.proofs.mul_answer.Tie as tie
 
-returns : tie.Need-returns
-unfolding mulAnswer
-returns c = cc
-
 pub mul-answer-spec : {M : Type 1} → statement M
+unfolding earliest
 mul-answer-spec =
     tie.close
     (tie.spec
@@ -18,4 +15,6 @@ mul-answer-spec =
     (λ c κs. search needs)
     (λ c κs. search needs)
     (λ c κs. search needs)
-    returns)
+    (λ c κs. search needs)
+    (λ c κs. search needs)
+    (λ c. cc))

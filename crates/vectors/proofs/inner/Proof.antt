@@ -1,0 +1,73 @@
+-- `vectors::inner` meets its contract: after j turns acc is the sum of the first j products.
+use Prim.Native.Nat.{ℕ, _≤_, _+_, _*_, _-_}
+use mathlib.Core.Path.{_≡_, refl, _∙_, ap}
+use native.Mathlib.Omega.{arith}
+use borrow.Author.Needs.{needs}
+use lib.ListN.{length, length-take, length-drop}
+use Rattle.lists.specs.Lists.{from}
+use Rattle.algebra.specs.Integers.{sum}
+use Rattle.algebra.specs.Ring.{inner, nat, residues, poly}
+use Rattle.vectors.specs.Laws.Turns.{inner-turn}
+use Rattle.vectors.proofs.inner.Statement.{statement}
+use Rattle.vectors.proofs.inner.Tie as tie
+
+abbrev Inv-loop : tie.InvT-loop
+Inv-loop l a start step s acc₀ j₀ acc j =
+    (acc ≡ residues 65536 (inner 256 j (λ (i : ℕ). nat (poly a (start + step * i))) (λ (i : ℕ). poly (nat s) i))) × (j ≤ l)
+
+abbrev μ-loop : tie.MeasureT-loop
+μ-loop l a start step s acc₀ j₀ acc j = l - j
+
+loop-holds : tie.Need-loop-holds Inv-loop μ-loop
+unfolding inner from sum
+loop-holds c = (refl, omega arith)
+
+-- polynomial start + step j stands in a
+within :
+    (c : tie.In-loop Inv-loop μ-loop) →
+    let x = c .before .before .before .before .args in
+    256 * (x .start + x .step * c .before .loop .j) + 256 ≤ length (x .a .now)
+within c = c .before .before .before .before .pre .first (c .before .loop .j) (omega arith)
+
+mul-add-requires : tie.Need-mul-add-requires Inv-loop μ-loop
+mul-add-requires c κs = simp (length-take, length-drop) (omega (arith, within (c .before .before)))
+
+loop-again : tie.Need-loop-again Inv-loop μ-loop
+loop-again c =
+    let d = c .before .before .before .before in
+    let x = d .before .before .before .args in
+    (inner-turn (x .a .now) (x .s .now) (λ i. x .start + x .step * i) (d .loop .j) (d .loop .inv .0) (c .mul-add .ensures), omega arith)
+
+returns : tie.Need-returns Inv-loop μ-loop
+returns c =
+    let x = c .before .before .before .before .args in
+    c .before .loop .inv .0
+    ∙ ap (λ (n : ℕ). residues 65536 (inner 256 n (λ (i : ℕ). nat (poly (x .a .now) (x .start + x .step * i))) (λ (i : ℕ). poly (nat (x .s .now)) i)))
+    (omega arith)
+
+pub inner-spec : {M : Type 1} → statement M
+inner-spec =
+    tie.close
+    (tie.spec
+    Inv-loop
+    μ-loop
+    loop-holds
+    (λ c. omega (arith, within c))
+    (λ c. omega (arith, within c))
+    (λ c. omega (arith, within c))
+    (λ c. omega (arith, within c))
+    (λ c. search needs)
+    (λ c. search needs)
+    (λ c. omega (arith, within c))
+    (λ c. search needs)
+    (λ c. search needs)
+    (λ c. omega (arith, within c))
+    (λ c. search needs)
+    (λ c. search needs)
+    (λ c. search needs)
+    (λ c. search needs)
+    mul-add-requires
+    (λ c. search needs)
+    (λ c. search needs)
+    loop-again
+    returns)

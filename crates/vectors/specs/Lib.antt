@@ -1,0 +1,3 @@
+pub mod Vectors
+pub mod Rooms
+pub mod Laws
