@@ -1,56 +1,60 @@
 -- Demand 3, as document 01's "Noise" reads it: the noise of the four seeds, when it is within the bounds, and what the steps and the four
--- calls then give. Definitions only.
-use Prim.Native.Nat.{ℕ, _<_}
+-- calls then give.
+use Prim.Native.Nat.{ℕ}
+use mathlib.Core.Bool.{true}
 use mathlib.Core.List.{List}
 use mathlib.Core.Path.{_≡_}
 use lib.IntN.{ℤ}
 use Rattle.sets.specs.declared.Params.{Params}
+use Rattle.sets.specs.Sets
 use Rattle.sets.specs.Sets.{paramsOf}
 use Rattle.algebra.specs.Ring.{poly}
-use Rattle.ring.specs.Products.{entry}
-use Rattle.sha3.specs.Sponge.{shake128, sha3-256}
+use Rattle.vectors.specs.Vectors.{entry}
+use Rattle.sha3.specs.Hashes.{shake128, sha3-256}
 use Rattle.sampling.specs.Sampling.{matrix, secret}
-use Rattle.kem.specs.Kem.{messageOf, coinsOf, publicKey, secretKey, plainPart, sealedCiphertext, sealedSecret, unsealedSecret}
-use Rattle.kem.specs.Promises.{Made, Encapsulated, Decapsulated}
 use Rattle.pke.specs.Pke.{decrypted}
 use Rattle.pke.specs.Promises.{Decrypted}
+use Rattle.keys.specs.Keys.{publicKey, secretKey, plainPart}
+use Rattle.keys.specs.Promises.{Generated}
+use Rattle.kem.specs.Kem.{messageOf, coinsOf, encapsCiphertext, encapsSecret, decapsSecret}
+use Rattle.kem.specs.Promises.{Encapsulated, Decapsulated}
 use Rattle.noise.specs.Noise.{Within, noise}
 use Rattle.correctness.specs.declared.SetNumbers.{SetNumbers}
 
--- the matrix seed, the secret seed and the sealing seed
+-- the matrix seed and the secret seed of key generation, and the seed of encapsulation
 module _ (p : Params) (matrixSeed secretSeed seed : List ℕ) where
-  -- s of making keys
+  -- s of key generation
   abbrev pub keySecret : List ℤ
   keySecret = secret (p .l) (p .mu) secretSeed
 
-  -- s' of sealing to the public key that making wrote: its seed is r
-  abbrev pub sealingSecret : List ℤ
-  sealingSecret = secret (p .l) (p .mu) (coinsOf (messageOf seed) (sha3-256 (publicKey p matrixSeed secretSeed)))
+  -- s' of encapsulation to the public key that key generation wrote: its seed is r
+  abbrev pub encryptionSecret : List ℤ
+  encryptionSecret = secret (p .l) (p .mu) (coinsOf (messageOf seed) (sha3-256 (publicKey p matrixSeed secretSeed)))
 
   -- N, reckoned from the seeds by the steps
   unfoldable pub seedsNoise : List ℤ
-  seedsNoise = noise 256 (p .l) (entry (p .l) (matrix (p .l) (shake128 matrixSeed 32))) (poly keySecret) (poly sealingSecret)
+  seedsNoise = noise 256 (p .l) (entry (p .l) (matrix (p .l) (shake128 matrixSeed 32))) (poly keySecret) (poly encryptionSecret)
 
   -- every coefficient lies in -8 M .. 8 M
-  abbrev pub Quiet : Type 0
-  Quiet = Within (p .margin) seedsNoise
+  abbrev pub NoiseWithin : Type 0
+  NoiseWithin = Within (p .margin) seedsNoise
 
   -- the ciphertext that the steps reckon from the seeds
   abbrev pub seedsCiphertext : List ℕ
-  seedsCiphertext = sealedCiphertext p (publicKey p matrixSeed secretSeed) seed
+  seedsCiphertext = encapsCiphertext p (publicKey p matrixSeed secretSeed) seed
 
-  -- with the secret key that they reckon, decryption gives back m, and unsealing the shared secret of sealing
+  -- with the secret key that they reckon, decryption gives back m, and decapsulation the shared secret of encapsulation
   pub record Returned (z : List ℕ) : Type 0 where
     pub message : decrypted p (plainPart p (secretKey p matrixSeed secretSeed z)) seedsCiphertext ≡ messageOf seed
-    pub secret : unsealedSecret p (secretKey p matrixSeed secretSeed z) seedsCiphertext ≡ sealedSecret p (publicKey p matrixSeed secretSeed) seed
+    pub secret : decapsSecret p (secretKey p matrixSeed secretSeed z) seedsCiphertext ≡ encapsSecret p (publicKey p matrixSeed secretSeed) seed
 
--- the set that keys are made under
+-- the set that keys are generated under
 abbrev pub rowOf : SetNumbers → Params
 rowOf sets = paramsOf (sets .keygen)
 
 -- the four set numbers mean one set, 0 counting as the set it means
 pub record OneSet (sets : SetNumbers) : Type 0 where
-  pub known : 0 < rowOf sets .l
+  pub known : Sets.known (sets .keygen) ≡ true
   pub encaps : paramsOf (sets .encaps) ≡ rowOf sets
   pub decrypt : paramsOf (sets .decrypt) ≡ rowOf sets
   pub decaps : paramsOf (sets .decaps) ≡ rowOf sets
@@ -73,19 +77,19 @@ pub record Ready (sets : SetNumbers) (matrixSeed secretSeed z seed pk sk ct ss m
 pub record Calls
     (sets : SetNumbers) (matrixSeed secretSeed z seed pk sk ct ss message secret : List ℕ) (r1 r2 r3 r4 : ℕ)
     (pk' sk' ct' ss' message' secret' : List ℕ) : Type 0 where
-  pub making : Made (sets .keygen) matrixSeed secretSeed z pk sk r1 pk' sk'
-  pub sealing : Encapsulated (sets .encaps) pk' seed ct ss r2 ct' ss'
-  pub decryption : Decrypted (sets .decrypt) (plainPart (paramsOf (sets .decrypt)) sk') ct' message r3 message'
-  pub unsealing : Decapsulated (sets .decaps) sk' ct' secret r4 secret'
+  pub keygen : Generated (sets .keygen) matrixSeed secretSeed z pk sk r1 pk' sk'
+  pub encaps : Encapsulated (sets .encaps) pk' seed ct ss r2 ct' ss'
+  pub decrypt : Decrypted (sets .decrypt) (plainPart (paramsOf (sets .decrypt)) sk') ct' message r3 message'
+  pub decaps : Decapsulated (sets .decaps) sk' ct' secret r4 secret'
 
 -- no call refuses
-pub record Answered (r1 r2 r3 r4 : ℕ) : Type 0 where
-  pub makes : r1 ≡ 0
-  pub seals : r2 ≡ 0
-  pub decrypts : r3 ≡ 0
-  pub unseals : r4 ≡ 0
+pub record Accepted (r1 r2 r3 r4 : ℕ) : Type 0 where
+  pub keygen : r1 ≡ 0
+  pub encaps : r2 ≡ 0
+  pub decrypt : r3 ≡ 0
+  pub decaps : r4 ≡ 0
 
--- decryption wrote all of m, and unsealing all of the shared secret that sealing wrote
-pub record Opened (seed ss' message' secret' : List ℕ) : Type 0 where
+-- decryption wrote all of m, and decapsulation all of the shared secret that encapsulation wrote
+pub record Agreed (seed ss' message' secret' : List ℕ) : Type 0 where
   pub message : message' ≡ messageOf seed
   pub secret : secret' ≡ ss'

@@ -1,5 +1,3 @@
 pub mod Claim
 pub mod Promises
-pub mod Opening
-pub mod Steps
-pub mod Theorem
+pub mod Laws

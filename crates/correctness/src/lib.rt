@@ -1,10 +1,10 @@
-// The four calls together: what is sealed to a made key comes back, where the noise is within its bounds.
+// The four calls together: what is encapsulated to a generated key comes back, where the noise is within its bounds.
 ghost use mathlib.Core.Path.{_≡_};
 ghost use Prim.Native.Nat.{_*_};
 ghost use lib.ListN.{take};
 ghost use Rattle.sets.specs.Sets.{paramsOf};
 ghost use Rattle.correctness.specs.Promises.{RoundTrip};
-ghost use Rattle.correctness.specs.Promises;
+use questions::ask;
 use sets::set_params;
 
 // The set numbers that the four calls are made with.
@@ -13,13 +13,6 @@ pub struct SetNumbers {
     pub encaps: u32,
     pub decrypt: u32,
     pub decaps: u32,
-}
-
-// The earlier of two answers that is a refusal, and 0 where neither is.
-fn earliest(first: u8, later: u8) -> u8
-    ensures { λ r. ⌜ r ≡ Promises.earliest first later ⌝ }
-{
-    if first == 0 { later } else { first }
 }
 
 // The first 416 l bytes of a secret key, or all of a shorter one.
@@ -35,7 +28,7 @@ fn plain_secret_of(set: u32, secret_key: &[u8]) -> &[u8]
     }
 }
 
-// Makes keys, encapsulates, decrypts and decapsulates, each with what the calls before it wrote. Answers the earliest refusal.
+// Generates keys, encapsulates, decrypts and decapsulates, each with what the calls before it wrote. Answers the earliest refusal.
 pub fn round_trip(
     sets: SetNumbers,
     matrix_seed: &[u8],
@@ -45,17 +38,17 @@ pub fn round_trip(
     public_key: &mut [u8],
     secret_key: &mut [u8],
     ciphertext: &mut [u8],
-    sealed_secret: &mut [u8],
+    shared_secret: &mut [u8],
     message: &mut [u8],
-    opened_secret: &mut [u8],
+    decaps_secret: &mut [u8],
 ) -> u8
     ensures { λ r. ⌜ RoundTrip sets (now («matrix_seed» .entry)) (now («secret_seed» .entry)) (now (z .entry)) (now (seed .entry))
-        (now («public_key» .entry)) (now («secret_key» .entry)) (now (ciphertext .entry)) (now («sealed_secret» .entry))
-        (now (message .entry)) (now («opened_secret» .entry)) r
-        (now («public_key» .exit)) (now («secret_key» .exit)) (now (ciphertext .exit)) (now («sealed_secret» .exit))
-        (now (message .exit)) (now («opened_secret» .exit)) ⌝ }
+        (now («public_key» .entry)) (now («secret_key» .entry)) (now (ciphertext .entry)) (now («shared_secret» .entry))
+        (now (message .entry)) (now («decaps_secret» .entry)) r
+        (now («public_key» .exit)) (now («secret_key» .exit)) (now (ciphertext .exit)) (now («shared_secret» .exit))
+        (now (message .exit)) (now («decaps_secret» .exit)) ⌝ }
 {
-    let r1 = kem::keygen(
+    let r1 = keys::keygen(
         sets.keygen,
         matrix_seed,
         secret_seed,
@@ -63,13 +56,14 @@ pub fn round_trip(
         public_key,
         secret_key,
     );
-    let r2 = kem::encaps(sets.encaps, public_key, seed, ciphertext, sealed_secret);
+    let r2 = kem::encaps(sets.encaps, public_key, seed, ciphertext, shared_secret);
     let r3 = pke::decrypt(
         sets.decrypt,
         plain_secret_of(sets.decrypt, secret_key),
         ciphertext,
         message,
     );
-    let r4 = kem::decaps(sets.decaps, secret_key, ciphertext, opened_secret);
-    earliest(r1, earliest(r2, earliest(r3, r4)))
+    let r4 = kem::decaps(sets.decaps, secret_key, ciphertext, decaps_secret);
+    let decaps = ask(r4 == 0, r4, 0);
+    ask(r1 == 0, r1, ask(r2 == 0, r2, ask(r3 == 0, r3, decaps)))
 }

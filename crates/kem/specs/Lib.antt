@@ -1,5 +1,4 @@
-pub mod Same
-pub mod Comparison
 pub mod Kem
 pub mod Promises
+pub mod Rooms
 pub mod Laws

@@ -1,6 +1,6 @@
 pub mod Booleans
 pub mod Lists
-pub mod Fill
-pub mod Parts
 pub mod Numbers
 pub mod Strings
+pub mod Parts
+pub mod Fill

@@ -1,15 +1,17 @@
 // The calls for programs in C and Rust, each with its own promise. A slice is passed as a pointer and then a count of elements.
 ghost use mathlib.Core.Path.{_≡_};
 ghost use Rattle.sha3.specs.Promises.{Shaken, Hashed};
-ghost use Rattle.sha3.specs.Sponge.{sha3-256, sha3-512};
+ghost use Rattle.sha3.specs.Hashes.{sha3-256, sha3-512};
 ghost use Rattle.packing.specs.Promises.{Packed, Unpacked};
-ghost use Rattle.ring.specs.Promises.{Multiplied, Rounded};
+ghost use Rattle.ring.specs.Promises.{Multiplied};
+ghost use Rattle.rounding.specs.Promises.{Rounded};
 ghost use Rattle.sampling.specs.Promises.{GenMatrix, GenSecret};
 ghost use Rattle.reconciliation.specs.Promises.{ReconData, Recovered};
 ghost use Rattle.pke.specs.Promises.{Encrypted, Decrypted};
-ghost use Rattle.kem.specs.Promises.{Made, Encapsulated, Decapsulated};
+ghost use Rattle.keys.specs.Promises.{Generated};
+ghost use Rattle.kem.specs.Promises.{Encapsulated, Decapsulated};
 ghost use Rattle.saber.specs.Lookup.{orZero, keyOffset, keyLength};
-use sets::lookup_answer;
+use keys::lookup_answer;
 use sets::set_params;
 
 // Making keys: Q1, Q3, Q9.
@@ -22,10 +24,10 @@ pub extern "C" fn saber_keygen(
     public_key: &mut [u8],
     secret_key: &mut [u8],
 ) -> u8
-    ensures { λ r. ⌜ Made set (now («matrix_seed» .entry)) (now («secret_seed» .entry)) (now (z .entry)) (now («public_key» .entry))
+    ensures { λ r. ⌜ Generated set (now («matrix_seed» .entry)) (now («secret_seed» .entry)) (now (z .entry)) (now («public_key» .entry))
         (now («secret_key» .entry)) r (now («public_key» .exit)) (now («secret_key» .exit)) ⌝ }
 {
-    kem::keygen(set, matrix_seed, secret_seed, z, public_key, secret_key)
+    keys::keygen(set, matrix_seed, secret_seed, z, public_key, secret_key)
 }
 
 // Encapsulation, "sealing": Q1, Q3, Q4, Q9.
@@ -115,7 +117,7 @@ pub extern "C" fn saber_poly_mul(modulus: u32, a: &[u16], b: &[u16], product: &m
 pub extern "C" fn saber_round(x: &[u16], rounded: &mut [u16]) -> u8
     ensures { λ r. ⌜ Rounded (now (x .entry)) (now (rounded .entry)) r (now (rounded .exit)) ⌝ }
 {
-    ring::round(x, rounded)
+    rounding::round(x, rounded)
 }
 
 // Reconciliation data of a polynomial: Q1, Q7, Q8, Q9.

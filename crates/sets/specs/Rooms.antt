@@ -7,6 +7,8 @@ use Rattle.sets.specs.Sets.{added}
 
 -- how the numbers of a row hang together
 pub record Sums (p : Params) : Type 0 where
+  pub stepSome : 0 < p .g
+  pub stepEven : p .g % 2 ≡ 0
   pub stepIs : p .g * 2 ^ p .bits ≡ 1024
   pub tIs : p .g * p .t ≡ 512
   pub marginIs : p .margin ≡ 256 - p .g / 2

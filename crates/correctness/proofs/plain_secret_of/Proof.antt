@@ -7,7 +7,7 @@ use lib.ListN.{take}
 use lib.Seq.{take-all}
 use Rattle.lists.specs.Laws.Parts.{first-part}
 use Rattle.sets.specs.declared.Params.{Params}
-use Rattle.sampling.specs.Laws.{few-rows}
+use Rattle.sets.specs.Laws.Rows.{few-rows}
 use Rattle.correctness.proofs.plain_secret_of.Statement.{statement}
 use Rattle.correctness.proofs.plain_secret_of.Tie as tie
 

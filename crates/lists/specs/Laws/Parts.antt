@@ -1,11 +1,13 @@
 -- The parts of a list: what `&s[a..e]` reads, and what `&mut s[a..e]`, lent to one call after another, leaves of the whole.
 use Prim.Native.Nat.{ℕ, _+_, _-_, _≤_}
 use mathlib.Core.List.{List, [], _++_, append-assoc}
-use mathlib.Core.Path.{_≡_, refl, sym, ap, ap₂, _∙_}
+use mathlib.Core.Path.{_≡_, refl, sym, ap, _∙_}
 use native.Mathlib.Nat.{add-sub-cancel-left}
 use native.Mathlib.Omega.{arith}
 use lib.ListN.{length, take, drop, length-append, length-drop}
 use lib.Seq.{take-at, take-all, length-take-le}
+use Rattle.lists.specs.Strings.{placed}
+use Rattle.lists.specs.Laws.Strings.{length-placed, placed-next}
 use borrow.Rule.Slice.PartMut.{putMid, midOf, postOf, same-len-mid, mid-len}
 
 -- the first e elements, the n from a on, and those from e on
@@ -34,22 +36,29 @@ module _ (a e : ℕ) (s y : List ℕ) (h : a ≤ e) (g : e ≤ length s) (k : le
 pub put-all : (e : ℕ) (s p : List ℕ) → length s ≤ e → take e s ≡ p → s ≡ p
 put-all e s p h q = sym (take-all e s h) ∙ q
 
--- a list written in two parts, from 0 to n and from n to its end
-pub two-parts :
-    (n e : ℕ) (s x y : List ℕ) → n ≤ e → length s ≡ e → length x ≡ length (midOf 0 (n - 0) s) →
-    length y ≡ length (midOf n (e - n) (putMid 0 (n - 0) s x)) → putMid n (e - n) (putMid 0 (n - 0) s x) y ≡ x ++ y
-two-parts n e s x y h g k j =
-    let s1 = putMid 0 (n - 0) s x in
-    let l1 : length s1 ≡ length s = put-long 0 n s x (omega arith) (omega arith) k in
-    let h1 : e ≤ length s1 = omega arith in
-    put-all e (putMid n (e - n) s1 y) (x ++ y) (omega (arith, put-long n e s1 y h h1 j))
-    (put-next n e s1 y h h1 j x (put-next 0 n s x (omega arith) (omega arith) k [] refl))
+-- a list of N elements that is written from the front, string by string: its first n elements are p
+pub record Written (N : ℕ) (s : List ℕ) (n : ℕ) (p : List ℕ) : Type 0 where
+  pub size : length s ≡ N
+  pub within : n ≤ N
+  pub front : take n s ≡ p
 
--- a string written in two parts
-pub in-parts :
-    (n e : ℕ) (s x y : List ℕ) {z : List ℕ} → n ≤ e → length s ≡ e → length x ≡ length (midOf 0 (n - 0) s) →
-    length y ≡ length (midOf n (e - n) (putMid 0 (n - 0) s x)) → x ++ y ≡ z → putMid n (e - n) (putMid 0 (n - 0) s x) y ≡ z
-in-parts n e s x y h l k j q = two-parts n e s x y h l k j ∙ q
+pub written-none : (s : List ℕ) → Written (length s) s 0 []
+written-none s = record { size = refl; within = omega arith; front = refl }
 
-pub both : {x y a b : List ℕ} → x ≡ a → y ≡ b → x ++ y ≡ a ++ b
-both p q = ap₂ _++_ p q
+-- by a call to which the part from a to e was lent
+pub written-part :
+    {N a e : ℕ} {s p : List ℕ} (y : List ℕ) → Written N s a p → a ≤ e → e ≤ N → length y ≡ length (midOf a (e - a) s) →
+    Written N (putMid a (e - a) s y) e (p ++ y)
+written-part {N} {a} {e} {s} {p} y w h l k =
+    let g : e ≤ length s = omega (arith, w .size) in
+    record { size = put-long a e s y h g k ∙ w .size; within = l; front = put-next a e s y h g k p (w .front) }
+
+-- by a copy to place a
+pub written-copy :
+    {N a e : ℕ} {s p : List ℕ} (y : List ℕ) → Written N s a p → e ≡ a + length y → e ≤ N → Written N (placed a y s) e (p ++ y)
+written-copy {N} {a} {e} {s} {p} y w h l =
+    let g : a + length y ≤ length s = omega (arith, w .size) in
+    record { size = length-placed a y s g ∙ w .size; within = l; front = placed-next a y s g p e h (w .front) }
+
+pub written-all : {N n : ℕ} {s p : List ℕ} → Written N s n p → N ≤ n → s ≡ p
+written-all {N} {n} {s} {p} w h = put-all n s p (omega (arith, w .size)) (w .front)

@@ -1,7 +1,8 @@
--- `pke::decrypt` meets its contract: an answer of 0 gives `decrypt_into` what it asks, and any other leaves the message alone.
+-- `pke::decrypt` meets its contract: an answer of 0 gives `decrypt_with` what it asks, and any other leaves the output alone.
 use borrow.Author.Needs.{needs}
-use Rattle.questions.specs.Laws.Answers.{refused}
-use Rattle.pke.specs.Laws.{decrypt-room}
+use Rattle.questions.specs.Laws.Answers.{wrote-none}
+use Rattle.answers.specs.Laws.Rooms.{decrypt-room}
+use Rattle.pke.specs.Laws.Pke.{decrypt-done}
 use Rattle.pke.proofs.decrypt.Statement.{statement}
 use Rattle.pke.proofs.decrypt.Tie as tie
 
@@ -10,8 +11,13 @@ decrypt-spec =
     tie.close
     (tie.spec
     (λ c κs. search needs)
-    (λ c. search refused)
+    (λ c. search wrote-none)
     (λ c κs. search needs)
-    (λ c κs. search decrypt-room)
+    (λ c. ?)
     (λ c. search needs)
-    (λ c. record { answer = cc; message = cc }))
+    (λ c. search needs)
+    (λ c. search needs)
+    (λ c κs. ?)
+    (λ c. search needs)
+    (λ c. search needs)
+    (λ c. search decrypt-done))

@@ -1,7 +1,8 @@
--- `pke::encrypt` meets its contract: an answer of 0 gives `encrypt_into` what it asks, and any other leaves the ciphertext alone.
+-- `pke::encrypt` meets its contract: an answer of 0 gives `encrypt_with` what it asks, and any other leaves the output alone.
 use borrow.Author.Needs.{needs}
-use Rattle.questions.specs.Laws.Answers.{refused}
-use Rattle.pke.specs.Laws.{encrypt-room}
+use Rattle.questions.specs.Laws.Answers.{wrote-none}
+use Rattle.answers.specs.Laws.Rooms.{encrypt-room}
+use Rattle.pke.specs.Laws.Pke.{encrypt-done}
 use Rattle.pke.proofs.encrypt.Statement.{statement}
 use Rattle.pke.proofs.encrypt.Tie as tie
 
@@ -10,8 +11,13 @@ encrypt-spec =
     tie.close
     (tie.spec
     (λ c κs. search needs)
-    (λ c. search refused)
+    (λ c. search wrote-none)
     (λ c κs. search needs)
-    (λ c κs. search encrypt-room)
+    (λ c. ?)
     (λ c. search needs)
-    (λ c. record { answer = cc; ciphertext = cc }))
+    (λ c. search needs)
+    (λ c. search needs)
+    (λ c κs. ?)
+    (λ c. search needs)
+    (λ c. search needs)
+    (λ c. search encrypt-done))

@@ -1,10 +1,9 @@
 -- `pke::encrypt_with` meets its contract: the two parts of the ciphertext are those of the definition.
-use Prim.Native.Nat.{_*_}
 use mathlib.Core.Path.{_∙_}
 use native.Mathlib.Omega.{arith}
 use borrow.Author.Needs.{needs}
-use Rattle.lists.specs.Laws.Parts.{first-part, last-part, two-parts}
-use Rattle.pke.specs.Laws.{encrypt-steps}
+use Rattle.lists.specs.Laws.Parts.{first-part, last-part, written-none, written-part, written-all}
+use Rattle.pke.specs.Laws.Pke.{encrypt-steps}
 use Rattle.pke.proofs.encrypt_with.Statement.{statement}
 use Rattle.pke.proofs.encrypt_with.Tie as tie
 
@@ -16,10 +15,13 @@ returns c =
     let start = after-secret .before .before .before .before .before .before .before .before in
     let a = start .args in
     let room = start .pre .room in
-    let x = after-vector .put-vector in
-    let y = after-data .put-data in
-    two-parts (320 * a .p .l) (a .p .ct) (a .ciphertext .now) (x .last .1 .1 .1 .1 .0) (y .last .1 .1 .1 .1 .0) (omega arith)
-    (room .ctLong) (x .kept .1 .1 .1 .1 .0) (y .kept .1 .1 .1 .1 .0)
+    let x = after-vector .vector-into in
+    let y = after-data .data-into in
+    written-all
+    (written-part (y .last .1 .1 .1 .1 .0)
+    (written-part (x .last .1 .1 .1 .1 .0) (written-none (a .ciphertext .now)) (omega arith) (omega (arith, room .ctLong)) (x .kept .1 .1 .1 .1 .0))
+    (omega arith) (omega (arith, room .ctLong)) (y .kept .1 .1 .1 .1 .0))
+    (omega (arith, room .ctLong))
     ∙ encrypt-steps _ _ _ _ (search first-part) (search (last-part, room .pkLong)) (after-secret .secret-into .ensures) (x .ensures)
     (y .ensures)
 

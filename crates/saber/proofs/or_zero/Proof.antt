@@ -1,6 +1,6 @@
 -- `saber::or_zero` meets its contract: an answer that is not 0 gives 0.
 use borrow.Author.Needs.{needs}
-use Rattle.saber.specs.Laws.{zero-refused}
+use Rattle.saber.specs.Laws.Lookup.{zero-refused}
 use Rattle.saber.proofs.or_zero.Statement.{statement}
 use Rattle.saber.proofs.or_zero.Tie as tie
 

@@ -1,7 +1,7 @@
 -- `saber::saber_public_key_offset` meets its contract: the calls give the definition's answer and row, and a row has few polynomials.
 use borrow.Author.Needs.{needs}
 use native.Mathlib.Omega.{arith}
-use Rattle.sampling.specs.Laws.{few-rows}
+use Rattle.sets.specs.Laws.Rows.{few-rows}
 use Rattle.saber.proofs.saber_public_key_offset.Statement.{statement}
 use Rattle.saber.proofs.saber_public_key_offset.Tie as tie
 

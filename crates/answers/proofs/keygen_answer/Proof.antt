@@ -1,0 +1,19 @@
+-- `answers::keygen_answer` meets its contract: it asks the questions of the definition.
+use borrow.Author.Needs.{needs}
+use Rattle.questions.specs.Answers.{earliest}
+use Rattle.answers.proofs.keygen_answer.Statement.{statement}
+use Rattle.answers.proofs.keygen_answer.Tie as tie
+
+pub keygen-answer-spec : {M : Type 1} → statement M
+unfolding earliest
+keygen-answer-spec =
+    tie.close
+    (tie.spec
+    (λ c κs. search needs)
+    (λ c κs. search needs)
+    (λ c κs. search needs)
+    (λ c κs. search needs)
+    (λ c κs. search needs)
+    (λ c κs. search needs)
+    (λ c κs. search needs)
+    (λ c. cc))

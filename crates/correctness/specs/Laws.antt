@@ -1,0 +1,3 @@
+pub mod Decryption
+pub mod Steps
+pub mod Theorem

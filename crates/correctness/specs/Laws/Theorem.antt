@@ -1,0 +1,181 @@
+-- Demand 3 as a theorem about any four calls that keep their promises, each made on what the earlier ones wrote.
+use Prim.Native.Nat.{ℕ, _*_}
+use mathlib.Core.Bool.{true}
+use mathlib.Core.List.{List}
+use mathlib.Core.Path.{_≡_, refl, sym, ap, _∙_, subst}
+use native.Mathlib.Omega.{arith}
+use lib.ListN.{length}
+use borrow.Author.Tests.{eq-eqb}
+use Rattle.questions.specs.Answers.{earliest, written}
+use Rattle.questions.specs.Laws.Answers.{accepted, none-no}
+use Rattle.sets.specs.declared.Params.{Params}
+use Rattle.sets.specs.Sets
+use Rattle.sets.specs.Sets.{paramsOf}
+use Rattle.sets.specs.Rooms.{Row}
+use Rattle.sets.specs.Laws.Rows
+use Rattle.answers.specs.Questions.{keygenQuestions, encapsQuestions, decapsQuestions, decryptQuestions}
+use Rattle.pke.specs.Promises.{Decrypted}
+use Rattle.pke.specs.Laws.Lengths.{length-encrypted}
+use Rattle.keys.specs.Keys.{publicKey, secretKey, plainPart}
+use Rattle.keys.specs.Laws.Parts.{length-public, length-secretKey, length-plainPart}
+use Rattle.kem.specs.Kem.{encapsCiphertext, encapsSecret}
+use Rattle.kem.specs.Promises.{Encapsulated, Decapsulated}
+use Rattle.correctness.specs.declared.SetNumbers.{SetNumbers}
+use Rattle.correctness.specs.Claim.{seedsCiphertext, OneSet, NoiseWithin, Ready, Calls, Accepted, Agreed}
+use Rattle.correctness.specs.Promises.{refusals, RoundTrip}
+use Rattle.correctness.specs.Laws.Steps.{returned}
+
+-- where the answer is 0 the output holds the result
+taken : {r : ℕ} {out : List ℕ} (result old : List ℕ) → r ≡ 0 → out ≡ written r result old → out ≡ result
+taken result old z e = e ∙ sym (accepted _ result old z)
+
+-- a promise under one number of a set is the promise under every other number of it
+module _ {set set′ : ℕ} (e : paramsOf set ≡ paramsOf set′) where
+  encapsulated-as : {r : ℕ} {pk seed ct ss ct' ss' : List ℕ} → Encapsulated set pk seed ct ss r ct' ss' → Encapsulated set′ pk seed ct ss r ct' ss'
+  encapsulated-as c = record { answers = rw e at (c .answers); ciphertext = rw e at (c .ciphertext); sharedSecret = rw e at (c .sharedSecret) }
+
+  decapsulated-as : {r : ℕ} {sk ct ss ss' : List ℕ} → Decapsulated set sk ct ss r ss' → Decapsulated set′ sk ct ss r ss'
+  decapsulated-as c = record { answers = rw e at (c .answers); writes = rw e at (c .writes) }
+
+  decrypted-as :
+      (sk : List ℕ) {r : ℕ} {ct m m' : List ℕ} → Decrypted set (plainPart (paramsOf set) sk) ct m r m' →
+      Decrypted set′ (plainPart (paramsOf set′) sk) ct m r m'
+  decrypted-as sk c = record { answers = rw e at (c .answers); writes = rw e at (c .writes) }
+
+module _
+    (sets : SetNumbers) (matrixSeed secretSeed z seed pk sk ct ss message secret : List ℕ) (r1 r2 r3 r4 : ℕ)
+    (pk' sk' ct' ss' message' secret' : List ℕ)
+    (ready :
+    Ready sets (length matrixSeed) (length secretSeed) (length z) (length seed) (length pk) (length sk) (length ct) (length ss) (length message)
+    (length secret))
+    (calls : Calls sets matrixSeed secretSeed z seed pk sk ct ss message secret r1 r2 r3 r4 pk' sk' ct' ss' message' secret') where
+  abbrev set : ℕ
+  set = sets .keygen
+
+  abbrev p : Params
+  p = paramsOf set
+
+  known : Sets.known set ≡ true
+  known = ready .oneSet .known
+
+  row : Row p
+  row = Rows.row set known
+
+  -- the calls under the number that keys are generated under
+  encapsulation : Encapsulated set pk' seed ct ss r2 ct' ss'
+  encapsulation = encapsulated-as (ready .oneSet .encaps) (calls .encaps)
+
+  decryption : Decrypted set (plainPart p sk') ct' message r3 message'
+  decryption = decrypted-as (ready .oneSet .decrypt) sk' (calls .decrypt)
+
+  decapsulation : Decapsulated set sk' ct' secret r4 secret'
+  decapsulation = decapsulated-as (ready .oneSet .decaps) (calls .decaps)
+
+  keygen-accepts : r1 ≡ 0
+  keygen-accepts =
+      calls .keygen .answers ∙
+      none-no (keygenQuestions set (length matrixSeed) (length secretSeed) (length z) (length pk) (length sk)) (
+        known,
+        eq-eqb _ 32 (ready .matrixSeedLong),
+        eq-eqb _ 32 (ready .secretSeedLong),
+        eq-eqb _ 32 (ready .zLong),
+        eq-eqb _ (p .pk) (ready .pkLong),
+        eq-eqb _ (p .sk) (ready .skLong),
+        tt,
+      )
+
+  pk-is : pk' ≡ publicKey p matrixSeed secretSeed
+  pk-is = taken _ pk keygen-accepts (calls .keygen .public)
+
+  sk-is : sk' ≡ secretKey p matrixSeed secretSeed z
+  sk-is = taken _ sk keygen-accepts (calls .keygen .secret)
+
+  encaps-accepts : r2 ≡ 0
+  encaps-accepts =
+      encapsulation .answers ∙
+      none-no (encapsQuestions set (length pk') (length seed) (length ct) (length ss)) (
+        known,
+        eq-eqb _ 32 (ready .seedLong),
+        eq-eqb _ (p .pk) (ap length pk-is ∙ length-public p row matrixSeed secretSeed z),
+        eq-eqb _ (p .ct) (ready .ctLong),
+        eq-eqb _ 32 (ready .ssLong),
+        tt,
+      )
+
+  ct-is : ct' ≡ seedsCiphertext p matrixSeed secretSeed seed
+  ct-is = taken _ ct encaps-accepts (encapsulation .ciphertext) ∙ ap (λ (k : List ℕ). encapsCiphertext p k seed) pk-is
+
+  ct-long : length ct' ≡ p .ct
+  unfolding encapsCiphertext
+  ct-long = ap length ct-is ∙ length-encrypted p row _ _ _
+
+  decrypt-accepts : r3 ≡ 0
+  decrypt-accepts =
+      decryption .answers ∙
+      none-no (decryptQuestions set (length (plainPart p sk')) (length ct') (length message)) (
+        known,
+        eq-eqb _ (416 * p .l) (ap (λ (k : List ℕ). length (plainPart p k)) sk-is ∙ length-plainPart p row matrixSeed secretSeed z),
+        eq-eqb _ (p .ct) ct-long,
+        eq-eqb _ 32 (ready .messageLong),
+        tt,
+      )
+
+  decaps-accepts : r4 ≡ 0
+  decaps-accepts =
+      decapsulation .answers ∙
+      none-no (decapsQuestions set (length sk') (length ct') (length secret)) (
+        known,
+        eq-eqb _ (p .sk) (ap length sk-is ∙ length-secretKey p row matrixSeed secretSeed z (ready .zLong)),
+        eq-eqb _ (p .ct) ct-long,
+        eq-eqb _ 32 (ready .secretLong),
+        tt,
+      )
+
+  -- no call refuses, whatever the seeds hold
+  pub accepts : Accepted r1 r2 r3 r4
+  accepts = record { keygen = keygen-accepts; encaps = encaps-accepts; decrypt = decrypt-accepts; decaps = decaps-accepts }
+
+  -- demand 3
+  pub agreed : NoiseWithin p matrixSeed secretSeed seed → Agreed seed ss' message' secret'
+  agreed within =
+      let back = returned set known matrixSeed secretSeed z seed within in
+      record {
+        message = taken _ message decrypt-accepts (decryption .writes) ∙ rw (sk-is, ct-is) (back .message);
+        secret =
+            taken _ secret decaps-accepts (decapsulation .writes)
+            ∙ rw (sk-is, ct-is) (back .secret)
+            ∙ sym (taken _ ss encaps-accepts (encapsulation .sharedSecret) ∙ ap (λ (k : List ℕ). encapsSecret p k seed) pk-is);
+      }
+
+-- 0 counts as the set it means; two sets are not one
+pub default-counts : OneSet (record { keygen = 0; encaps = 2; decrypt = 2; decaps = 0 })
+unfolding paramsOf
+default-counts = record { known = refl; encaps = refl; decrypt = refl; decaps = refl }
+
+pub mixed : OneSet (record { keygen = 2; encaps = 3; decrypt = 3; decaps = 3 }) → ⊥
+unfolding paramsOf
+mixed h = absurd (omega (arith, ap (λ (p : Params). p .l) (h .encaps)))
+
+-- the same string is decrypted
+pub same-string : {set r : ℕ} {plain x ct m m' : List ℕ} → plain ≡ x → Decrypted set plain ct m r m' → Decrypted set x ct m r m'
+same-string {set} {r} {ct = ct} {m = m} {m' = m'} e = subst (λ (y : List ℕ). Decrypted set y ct m r m') e
+
+-- the promise of the four calls in turn
+pub trip :
+    (sets : SetNumbers) (matrixSeed secretSeed z seed pk sk ct ss message secret : List ℕ) {r1 r2 r3 r4 r : ℕ}
+    {pk' sk' ct' ss' message' secret' : List ℕ} →
+    Calls sets matrixSeed secretSeed z seed pk sk ct ss message secret r1 r2 r3 r4 pk' sk' ct' ss' message' secret' →
+    r ≡ earliest (refusals r1 r2 r3 r4) →
+    RoundTrip sets matrixSeed secretSeed z seed pk sk ct ss message secret r pk' sk' ct' ss' message' secret'
+trip sets a s z seed pk sk ct ss m t {r1} {r2} {r3} {r4} {r} calls e = record {
+  r1 = r1;
+  r2 = r2;
+  r3 = r3;
+  r4 = r4;
+  calls = calls;
+  answers = e;
+  accepts = λ ready.
+      let y = accepts sets a s z seed pk sk ct ss m t r1 r2 r3 r4 _ _ _ _ _ _ ready calls in
+      (y, e ∙ none-no (refusals r1 r2 r3 r4) (eq-eqb r1 0 (y .keygen), eq-eqb r2 0 (y .encaps), eq-eqb r3 0 (y .decrypt), eq-eqb r4 0 (y .decaps), tt));
+  agrees = λ ready within. agreed sets a s z seed pk sk ct ss m t r1 r2 r3 r4 _ _ _ _ _ _ ready calls within;
+}

@@ -1,0 +1,3 @@
+pub mod Exchange
+pub mod Rooms
+pub mod Laws

@@ -1,0 +1,17 @@
+-- `keys::keygen_with` meets its contract: the steps of the definition, one after another.
+use borrow.Author.Needs.{needs}
+use Rattle.keys.specs.Laws.Keys.{keygen-steps}
+use Rattle.keys.proofs.keygen_with.Statement.{statement}
+use Rattle.keys.proofs.keygen_with.Tie as tie
+
+pub keygen-with-spec : {M : Type 1} → statement M
+keygen-with-spec =
+    tie.close
+    (tie.spec
+    (λ c κs. search needs)
+    (λ c κs. search needs)
+    (λ c κs. search needs)
+    (λ c. search needs)
+    (λ c. search needs)
+    (λ c. search needs)
+    (λ c. search keygen-steps))

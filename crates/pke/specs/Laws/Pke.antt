@@ -1,0 +1,56 @@
+-- Laws of encryption and decryption: the steps of each function, which together are its definition, and what a call then promises.
+use Prim.Native.Nat.{ℕ, _*_}
+use mathlib.Core.Bool.{false}
+use mathlib.Core.List.{List, _++_}
+use mathlib.Core.Path.{_≡_, sym, _∙_}
+use lib.IntN.{ℤ}
+use lib.ListN.{length, take, drop}
+use Rattle.questions.specs.Answers.{earliest}
+use Rattle.sets.specs.declared.Params.{Params}
+use Rattle.sets.specs.Sets.{paramsOf, added}
+use Rattle.answers.specs.Questions.{encryptQuestions, decryptQuestions}
+use Rattle.algebra.specs.Ring.{nat, residues}
+use Rattle.packing.specs.Packing.{packed, unpacked}
+use Rattle.vectors.specs.Vectors.{innerMod}
+use Rattle.vectors.specs.Laws.Vectors.{inner-secret}
+use Rattle.sampling.specs.Sampling.{secret}
+use Rattle.reconciliation.specs.Reconciliation.{maskedPoly, reconData, recovered}
+use Rattle.exchange.specs.Exchange.{roundedVector}
+use Rattle.exchange.specs.Laws.Exchange.{vector-secret}
+use Rattle.pke.specs.Pke.{dataPoly, encrypted, decrypted}
+use Rattle.pke.specs.Promises.{Encrypted, Decrypted}
+
+pub data-steps :
+    (p : Params) (b message : List ℕ) (s : List ℤ) {v bits w d out : List ℕ} → v ≡ innerMod 1024 (p .l) b s →
+    bits ≡ unpacked 1 message → w ≡ maskedPoly v bits → d ≡ reconData (p .g) w → out ≡ packed (p .bits) d →
+    out ≡ packed (p .bits) (dataPoly p b s message)
+unfolding dataPoly
+data-steps p b message s v bits w d o = rw (o, d, w, bits, v)
+
+pub encrypt-steps :
+    (p : Params) (pk message seed : List ℕ) {first last s vector numbers : List ℕ} → first ≡ take (320 * p .l) pk →
+    last ≡ drop (320 * p .l) pk → s ≡ residues 8192 (secret (p .l) (p .mu) seed) →
+    vector ≡ packed 10 (roundedVector false (p .l) last (nat s)) →
+    numbers ≡ packed (p .bits) (dataPoly p (unpacked 10 first) (nat s) message) → vector ++ numbers ≡ encrypted p pk message seed
+unfolding encrypted dataPoly
+encrypt-steps p pk message seed f l s v n = rw (v, n, s, f, l, vector-secret, inner-secret)
+
+pub decrypt-steps :
+    (p : Params) (plain ct : List ℕ) {first last secret v message : List ℕ} → first ≡ take (320 * p .l) ct →
+    last ≡ drop (320 * p .l) ct → secret ≡ unpacked 13 plain → v ≡ innerMod 1024 (p .l) (unpacked 10 first) (nat secret) →
+    message ≡ packed 1 (recovered (p .g) (added p) v (unpacked (p .bits) last)) → message ≡ decrypted p plain ct
+unfolding decrypted
+decrypt-steps p plain ct f l s v m = rw (m, v, s, f, l)
+
+-- with the work done an answer of 0 is what the call promises
+module _ (set : ℕ) {r : ℕ} {p : Params} (is : p ≡ paramsOf set) (z : r ≡ 0) where
+  pub encrypt-done :
+      (pk message seed ct : List ℕ) {ct' : List ℕ} →
+      r ≡ earliest (encryptQuestions set (length pk) (length message) (length seed) (length ct)) →
+      ct' ≡ encrypted p pk message seed → Encrypted set pk message seed ct 0 ct'
+  encrypt-done pk message seed ct a w = record { answers = sym z ∙ a; writes = rw is at w }
+
+  pub decrypt-done :
+      (plain ct message : List ℕ) {message' : List ℕ} → r ≡ earliest (decryptQuestions set (length plain) (length ct) (length message)) →
+      message' ≡ decrypted p plain ct → Decrypted set plain ct message 0 message'
+  decrypt-done plain ct message a w = record { answers = sym z ∙ a; writes = rw is at w }

@@ -1,0 +1,22 @@
+-- Laws of the lookup in two numbers.
+use Prim.Native.Nat.{ℕ, zero, suc, _*_}
+use mathlib.Core.List.{List, []}
+use mathlib.Core.Path.{_≡_, refl}
+use lib.ListN.{length, take, drop}
+use Rattle.questions.specs.Answers.{earliest, written}
+use Rattle.sets.specs.Sets.{paramsOf}
+use Rattle.keys.specs.Keys.{lookupQuestions, publicKeyOf}
+use Rattle.saber.specs.Lookup.{orZero, keyOffset, keyLength}
+
+-- a refusal gives 0
+pub zero-refused : (answer n : ℕ) → (answer ≡ 0 → ⊥) → 0 ≡ orZero answer n
+zero-refused zero n h = absurd (h refl)
+zero-refused (suc r) n h = refl
+
+cut : (r a n : ℕ) (s : List ℕ) → take (orZero r n) (drop (orZero r a) s) ≡ written r (take n (drop a s)) []
+cut zero a n s = refl
+cut (suc r) a n s = refl
+
+-- the two numbers cut out of a secret key the part that the lookup hands back
+pub key-part : (set : ℕ) (sk : List ℕ) → take (keyLength set (length sk)) (drop (keyOffset set (length sk)) sk) ≡ publicKeyOf set sk
+key-part set sk = cut (earliest (lookupQuestions set (length sk))) (416 * paramsOf set .l) (paramsOf set .pk) sk
