@@ -1,14 +1,13 @@
 -- Demand 3 over the definitions: the exact line for a miss, and the message that comes back whole where the noise is within its bounds.
-use Prim.Native.Nat.{ℕ, suc, _+_, _-_, _*_, _/_, _%_, _^_, _<_, _≤_}
+use Prim.Native.Nat.{ℕ, _%_, _<_, _≤_}
 use mathlib.Core.Bool.{true}
 use mathlib.Core.List.{List, map}
 use mathlib.Core.Logic.{_↔_}
-use mathlib.Core.Path.{_≡_, refl, sym, ap, _∙_}
-use native.Mathlib.Nat.{mod-lt, mul-div-cancel, pow-succ', zero-div}
+use mathlib.Core.Path.{_≡_, refl, sym, _∙_}
+use native.Mathlib.Nat.{mod-lt, zero-div}
 use native.Mathlib.Omega.{arith}
 use lib.IntN.{ℤ}
 use lib.ListN.{length, getD, length-map, List·getD-map}
-use lib.Pow.{pow-add, pow-pos}
 use lib.Seq.{ext-getD}
 use Rattle.lists.specs.Laws.Lists.{from-at, length-from}
 use Rattle.algebra.specs.Ring.{at}
@@ -21,27 +20,9 @@ use Rattle.noise.specs.Noise.{bound, Within, Fits, Carries, offset, Near
 use Rattle.noise.specs.Laws.Agreement.{agree, noise-multiple}
 use Rattle.noise.specs.Laws.Bit.{bit-exact, near-within}
 
--- a step whose data have fewer than ten bits is even and not 0
-even-step : (g bits : ℕ) → bits < 10 → g * 2 ^ bits ≡ 1024 → (0 < g) × (g % 2 ≡ 0)
-even-step g bits h e = (omega (arith, twice, pow-pos (9 - bits)), omega (arith, twice))
-  where
-    ten : 10 ≡ suc (9 - bits) + bits
-    ten = omega arith
-
-    whole : 1024 ≡ 2 * 2 ^ (9 - bits) * 2 ^ bits
-    whole = rw (← pow-succ' 2 (9 - bits), ← pow-add 2 (suc (9 - bits)) bits) (ap (λ (n : ℕ). 2 ^ n) ten)
-
-    twice : g ≡ 2 * 2 ^ (9 - bits)
-    twice =
-        sym (mul-div-cancel g (pow-pos bits)) ∙ ap (λ (n : ℕ). n / 2 ^ bits) (e ∙ whole)
-        ∙ mul-div-cancel (2 * 2 ^ (9 - bits)) (pow-pos bits)
-
 -- the numbers of every set fit
 pub fits : (set : ℕ) → known set ≡ true → Fits (paramsOf set .g) (paramsOf set .margin) (added (paramsOf set))
-fits set k =
-    let p = row set k in
-    let g = even-step (paramsOf set .g) (paramsOf set .bits) (omega arith) (p .sums .stepIs) in
-    record { some = g .0; even = g .1; bounds = omega arith; adds = p .sums .addedIs }
+fits set k = let p = row set k .sums in record { some = p .stepSome; even = p .stepEven; bounds = omega arith; adds = p .addedIs }
 
 -- the bounds of LightSaber, Saber and FireSaber
 pub bounds : (bound (paramsOf 1 .margin) ≡ 1536) × (bound (paramsOf 2 .margin) ≡ 1792) × (bound (paramsOf 3 .margin) ≡ 1984)
