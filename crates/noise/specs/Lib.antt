@@ -1,7 +1,2 @@
 pub mod Noise
-pub mod Example
-pub mod Errors
-pub mod Agreement
-pub mod Bit
-pub mod Theorem
-pub mod Flat
+pub mod Laws

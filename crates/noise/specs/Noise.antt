@@ -1,6 +1,6 @@
 -- Document 01, "Noise": the errors of rounding, the noise and its bounds, reckoned from a matrix A, given by row and column, and the secrets s
--- and s′ as whole numbers, each of l polynomials of n coefficients. Definitions only.
-use Prim.Native.Nat.{ℕ, _+_, _*_, _/_, _<_, _≤_}
+-- and s′ as whole numbers, each of l polynomials of n coefficients.
+use Prim.Native.Nat.{ℕ, _+_, _*_, _/_, _%_, _<_, _≤_}
 use mathlib.Core.List.{List, map}
 use mathlib.Core.Path.{_≡_}
 use lib.IntN.{ℤ, pos, _+ℤ_, _-ℤ_}
@@ -8,7 +8,7 @@ use lib.ListN.{length, getD}
 use Rattle.lists.specs.Lists.{from}
 use Rattle.algebra.specs.Integers.{up, dn, modℤ, quotℤ}
 use Rattle.algebra.specs.Ring.{at, inner, nat, residues}
-use Rattle.ring.specs.Rounding.{round}
+use Rattle.rounding.specs.Rounding.{round}
 use Rattle.reconciliation.specs.Reconciliation.{masked}
 
 -- z modulo m, taken into -m/2 .. m/2 - 1, for an even m
@@ -72,10 +72,12 @@ bound margin = 8 * margin
 abbrev pub Within : ℕ → List ℤ → Type 0
 Within margin N = (k : ℕ) → k < length N → Lies (bound margin) (bound margin) (at N k)
 
--- what is asked of g and M: M is 256 - g/2, and g is even and not 0
-pub record Fits (g margin : ℕ) : Type 0 where
+-- what is asked of the step g, of M, which bounds the noise, and of what recovery adds: g is even and not 0, and both are 256 - g/2
+pub record Fits (g margin added : ℕ) : Type 0 where
   pub some : 0 < g
-  pub half : 2 * margin + g ≡ 512
+  pub even : g % 2 ≡ 0
+  pub bounds : margin + g / 2 ≡ 256
+  pub adds : added + g / 2 ≡ 256
 
 -- w carries the message m, of n bits
 pub record Carries (n : ℕ) (v′ m w : List ℕ) : Type 0 where

@@ -74,16 +74,9 @@ fn recover_answer(set: u32, v: &[u16], data: &[u16], bits: usize) -> u8
 {
     let p = set_params(set);
     let bound = 2 * p.t as u32;
-    let q8 = ask(
-        all_below(1024, v),
-        8,
-        ask(all_below(bound, data), 8, ask(bits == 256, 9, 0)),
-    );
-    ask(
-        0 < p.l,
-        1,
-        ask(v.len() == 256, 7, ask(data.len() == 256, 7, q8)),
-    )
+    let q8 = ask(all_below(bound, data), 8, ask(bits == 256, 9, 0));
+    let q7 = ask(data.len() == 256, 7, ask(all_below(1024, v), 8, q8));
+    ask(0 < p.l, 1, ask(v.len() == 256, 7, q7))
 }
 
 // Reconciliation data of a polynomial: Q1, Q7, Q8, Q9.

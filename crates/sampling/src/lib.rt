@@ -8,10 +8,9 @@ ghost use Rattle.algebra.specs.Ring.{residues};
 ghost use Rattle.packing.specs.Packing.{unpacked};
 ghost use Rattle.packing.specs.Rooms.{Fills};
 ghost use Rattle.sha3.specs.Hashes.{shake128};
-ghost use Rattle.sampling.specs.Sampling.{matrix, secret, genMatrixQuestions, genSecretQuestions};
+ghost use Rattle.sampling.specs.Sampling.{matrix, secret, weighed, genMatrixQuestions, genSecretQuestions};
 ghost use Rattle.sampling.specs.Promises.{GenMatrix, GenSecret};
 ghost use Rattle.sampling.specs.Rooms.{MatrixRoom, SecretRoom};
-ghost use Rattle.sampling.specs.Laws.Halves.{weighed};
 use questions::ask;
 use sets::set_params;
 

@@ -16,4 +16,11 @@ pub gen-matrix-answer-spec : {M : Type 1} → statement M
 unfolding earliest
 gen-matrix-answer-spec =
     tie.close
-    (tie.spec (λ c κs. search needs) (λ c. omega (arith, few-rows)) mul-n-2 (λ c κs. search needs) (λ c κs. search needs) (λ c κs. search needs) (λ c. cc))
+    (tie.spec
+    (λ c κs. search needs)
+    (λ c. omega (arith, few-rows))
+    mul-n-2
+    (λ c κs. search needs)
+    (λ c κs. search needs)
+    (λ c κs. search needs)
+    (λ c. cc))

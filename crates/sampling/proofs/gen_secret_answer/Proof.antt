@@ -6,14 +6,14 @@ use Rattle.sets.specs.Laws.Rows.{few-rows}
 use Rattle.sampling.proofs.gen_secret_answer.Statement.{statement}
 use Rattle.sampling.proofs.gen_secret_answer.Tie as tie
 
-mul-n : tie.Need-mul-n
-mul-n c = omega (arith, few-rows _ (c .before .set-params .ensures))
-
-returns : tie.Need-returns
-unfolding earliest
-returns c = cc
-
 pub gen-secret-answer-spec : {M : Type 1} → statement M
+unfolding earliest
 gen-secret-answer-spec =
     tie.close
-    (tie.spec (λ c κs. search needs) mul-n (λ c κs. search needs) (λ c κs. search needs) (λ c κs. search needs) returns)
+    (tie.spec
+    (λ c κs. search needs)
+    (λ c. omega (arith, few-rows))
+    (λ c κs. search needs)
+    (λ c κs. search needs)
+    (λ c κs. search needs)
+    (λ c. cc))

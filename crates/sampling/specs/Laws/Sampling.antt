@@ -16,9 +16,9 @@ use Rattle.algebra.specs.Integers.{modℤ}
 use Rattle.algebra.specs.Ring.{at, residues}
 use Rattle.sponge.specs.Laws.Sponge.{length-sponge}
 use Rattle.sha3.specs.Hashes.{shake128}
-use Rattle.sampling.specs.Sampling.{matrix, differences, secretOf, secret}
+use Rattle.sampling.specs.Sampling.{matrix, differences, secretOf, secret, weighed}
 use Rattle.sampling.specs.Rooms.{Pieces}
-use Rattle.sampling.specs.Laws.Halves.{weighed, secret-weighed}
+use Rattle.sampling.specs.Laws.Halves.{secret-weighed}
 
 -- the matrix: 256 l l numbers, each below 8192
 module _ (l : ℕ) (seed : List ℕ) where

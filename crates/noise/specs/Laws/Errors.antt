@@ -10,7 +10,7 @@ use Rattle.algebra.specs.Integers.{up, dn, modℤ}
 use Rattle.algebra.specs.Laws.Whole.{eqℤ, up-neg, dn-neg, add-split}
 use Rattle.algebra.specs.Laws.Residues.{Same, mod-of, same-residue}
 use Rattle.algebra.specs.Ring.{at}
-use Rattle.ring.specs.Rounding.{round}
+use Rattle.rounding.specs.Rounding.{round}
 use Rattle.noise.specs.Noise.{around, Lies, error, times, errors}
 
 -- a whole number is not above zero and below it at once

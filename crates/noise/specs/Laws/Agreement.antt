@@ -12,9 +12,9 @@ use Rattle.algebra.specs.Laws.Residues.{Same, mod-of, same-residue, same-sym, s
 use Rattle.algebra.specs.Ring.{at, inner, nat, residues}
 use Rattle.algebra.specs.Laws.Product.{inner-adjoint}
 use Rattle.algebra.specs.Laws.Reduced.{at-nat, at-residues, inner-carries}
-use Rattle.ring.specs.Rounding.{round}
+use Rattle.rounding.specs.Rounding.{round}
 use Rattle.noise.specs.Noise.{error, times, rounded, errors, transposed, e, e′, v, v′, noise}
-use Rattle.noise.specs.Errors.{sub-split, round-error}
+use Rattle.noise.specs.Laws.Errors.{sub-split, round-error}
 
 -- 8 × z modulo 8192 is 8 × (z modulo 1024)
 eight : (z : ℤ) → Same 8192 (pos 8 *ℤ z) (pos (8 * modℤ z 1024))

@@ -10,8 +10,8 @@ use Rattle.algebra.specs.Laws.Whole.{add-split}
 use Rattle.algebra.specs.Laws.Residues.{Same, mod-split, mod-bound, mod-of, same-residue, same-refl}
 use Rattle.reconciliation.specs.Reconciliation.{dataOf, bitOf, masked}
 use Rattle.noise.specs.Noise.{around, Lies, bound, Fits, offset, Near}
-use Rattle.noise.specs.Errors.{one-sign, sub-split, around-is}
-use Rattle.noise.specs.Agreement.{multiple}
+use Rattle.noise.specs.Laws.Errors.{one-sign, sub-split, around-is}
+use Rattle.noise.specs.Laws.Agreement.{multiple}
 
 -- the parts of N/8 + r - g/2, where N is a multiple of 8
 offset-split :
@@ -22,8 +22,9 @@ offset-split g r N h =
 
 -- noise within its bounds is near zero with every remainder
 pub near-within :
-    (g margin : ℕ) → Fits g margin → (N : ℤ) → modℤ N 8 ≡ 0 → Lies (bound margin) (bound margin) N → (r : ℕ) → r < g → Near (offset g N r)
-near-within g margin fit N h small r hr =
+    {g margin added : ℕ} → Fits g margin added → (N : ℤ) → modℤ N 8 ≡ 0 → Lies (bound margin) (bound margin) N → (r : ℕ) → r < g →
+    Near (offset g N r)
+near-within {g} fit N h small r hr =
     let o = offset g N r in
     let p = offset-split g r N h in
     let q = one-sign N in
@@ -32,14 +33,14 @@ near-within g margin fit N h small r hr =
 
 -- v and v′ agree but for N, and w carries the bit m on v′
 module _
-    (g margin : ℕ) (fit : Fits g margin) (v v′ m w : ℕ) (N : ℤ) (agree : Same 8192 (pos (8 * v)) (pos (8 * v′) +ℤ N)) (bit : m < 2)
-    (carried : w ≡ masked v′ m) where
+    {g margin added : ℕ} (fit : Fits g margin added) (v v′ m w : ℕ) (N : ℤ) (agree : Same 8192 (pos (8 * v)) (pos (8 * v′) +ℤ N))
+    (bit : m < 2) (carried : w ≡ masked v′ m) where
   -- the number whose top bit is read
   read :
-      modℤ (pos v -ℤ pos (g * dataOf g w) +ℤ pos margin) 1024
+      modℤ (pos v -ℤ pos (g * dataOf g w) +ℤ pos added) 1024
       ≡ (modℤ (offset g N (w % g) +ℤ pos 512) 1024 + 768 + 512 * m) % 1024
   read =
-      let x = pos v -ℤ pos (g * dataOf g w) +ℤ pos margin in
+      let x = pos v -ℤ pos (g * dataOf g w) +ℤ pos added in
       let o = offset g N (w % g) in
       let c = same-residue 1024 (omega arith) (o +ℤ pos 512) in
       mod-of 1024 (omega arith) {x = x} {y = pos (modℤ (o +ℤ pos 512) 1024 + 768 + 512 * m)}
@@ -52,12 +53,12 @@ module _
           add-split (pos (8 * v′)) N,
           add-split o (pos 512),
           div-add-mod w g,
-          add-split (pos v -ℤ pos (g * dataOf g w)) (pos margin),
+          add-split (pos v -ℤ pos (g * dataOf g w)) (pos added),
           sub-split (pos v) (pos (g * dataOf g w)),
         );
       })
 
-  pub bit-exact : (bitOf g margin v (dataOf g w) ≡ m) ↔ Near (offset g N (w % g))
+  pub bit-exact : (bitOf g added v (dataOf g w) ≡ m) ↔ Near (offset g N (w % g))
   bit-exact =
       let o = offset g N (w % g) in
       let low = mod-bound (o +ℤ pos 512) 1024 (omega arith) in
