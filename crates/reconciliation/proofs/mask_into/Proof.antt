@@ -14,11 +14,8 @@ Inv-loop v bits out₀ k₀ out k = Filled 256 out k (λ j. masked (getD v j 0) 
 abbrev μ-loop : tie.MeasureT-loop
 μ-loop v bits out₀ k₀ out k = 256 - k
 
-returns : tie.Need-returns Inv-loop μ-loop
-unfolding maskedPoly
-returns c = fill-all (omega arith) (c .before .loop .inv)
-
 pub mask-into-spec : {M : Type 1} → statement M
+unfolding maskedPoly
 mask-into-spec =
     tie.close
     (tie.spec
@@ -35,4 +32,4 @@ mask-into-spec =
     (λ c. search needs)
     (λ c. search needs)
     (λ c. fill-more (omega arith) (c .before .before .before .before .loop .inv) (c .mask .ensures))
-    returns)
+    (λ c. fill-all (omega arith) (c .before .loop .inv)))

@@ -7,11 +7,6 @@ use Rattle.sets.specs.Laws.Rows.{few-rows}
 use Rattle.sampling.proofs.gen_matrix_answer.Statement.{statement}
 use Rattle.sampling.proofs.gen_matrix_answer.Tie as tie
 
-mul-n-2 : tie.Need-mul-n-2
-mul-n-2 c =
-    let few = few-rows _ (c .before .before .set-params .ensures) in
-    omega (arith, mul-le-mul few few)
-
 pub gen-matrix-answer-spec : {M : Type 1} → statement M
 unfolding earliest
 gen-matrix-answer-spec =
@@ -19,7 +14,7 @@ gen-matrix-answer-spec =
     (tie.spec
     (λ c κs. search needs)
     (λ c. omega (arith, few-rows))
-    mul-n-2
+    (λ c. let few = few-rows _ (c .before .before .set-params .ensures) in omega (arith, mul-le-mul few few))
     (λ c κs. search needs)
     (λ c κs. search needs)
     (λ c κs. search needs)
