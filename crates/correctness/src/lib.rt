@@ -2,8 +2,9 @@
 ghost use mathlib.Core.Path.{_≡_};
 ghost use Prim.Native.Nat.{_*_};
 ghost use lib.ListN.{take};
+ghost use Rattle.questions.specs.Answers.{earliest};
 ghost use Rattle.sets.specs.Sets.{paramsOf};
-ghost use Rattle.correctness.specs.Promises.{RoundTrip};
+ghost use Rattle.correctness.specs.Promises.{refusals, RoundTrip};
 use questions::ask;
 use sets::set_params;
 
@@ -13,6 +14,14 @@ pub struct SetNumbers {
     pub encaps: u32,
     pub decrypt: u32,
     pub decaps: u32,
+}
+
+// The earliest of four answers that is a refusal, or 0.
+fn refusal(r1: u8, r2: u8, r3: u8, r4: u8) -> u8
+    ensures { λ r. ⌜ r ≡ earliest (refusals r1 r2 r3 r4) ⌝ }
+{
+    let last = ask(r4 == 0, r4, 0);
+    ask(r1 == 0, r1, ask(r2 == 0, r2, ask(r3 == 0, r3, last)))
 }
 
 // The first 416 l bytes of a secret key, or all of a shorter one.
@@ -64,6 +73,5 @@ pub fn round_trip(
         message,
     );
     let r4 = kem::decaps(sets.decaps, secret_key, ciphertext, decaps_secret);
-    let decaps = ask(r4 == 0, r4, 0);
-    ask(r1 == 0, r1, ask(r2 == 0, r2, ask(r3 == 0, r3, decaps)))
+    refusal(r1, r2, r3, r4)
 }

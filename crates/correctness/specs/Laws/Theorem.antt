@@ -30,17 +30,17 @@ taken : {r : ℕ} {out : List ℕ} (result old : List ℕ) → r ≡ 0 → out �
 taken result old z e = e ∙ sym (accepted _ result old z)
 
 -- a promise under one number of a set is the promise under every other number of it
-module _ {set set′ : ℕ} (e : paramsOf set ≡ paramsOf set′) where
+module _ (set set′ : ℕ) (e : paramsOf set ≡ paramsOf set′) where
   encapsulated-as : {r : ℕ} {pk seed ct ss ct' ss' : List ℕ} → Encapsulated set pk seed ct ss r ct' ss' → Encapsulated set′ pk seed ct ss r ct' ss'
   encapsulated-as c = record { answers = rw e at (c .answers); ciphertext = rw e at (c .ciphertext); sharedSecret = rw e at (c .sharedSecret) }
 
-  decapsulated-as : {r : ℕ} {sk ct ss ss' : List ℕ} → Decapsulated set sk ct ss r ss' → Decapsulated set′ sk ct ss r ss'
-  decapsulated-as c = record { answers = rw e at (c .answers); writes = rw e at (c .writes) }
+  decapsulated-as : (sk ct : List ℕ) {r : ℕ} {ss ss' : List ℕ} → Decapsulated set sk ct ss r ss' → Decapsulated set′ sk ct ss r ss'
+  decapsulated-as sk ct c = record { answers = rw e at (c .answers); writes = rw e at (c .writes) }
 
   decrypted-as :
-      (sk : List ℕ) {r : ℕ} {ct m m' : List ℕ} → Decrypted set (plainPart (paramsOf set) sk) ct m r m' →
+      (sk ct : List ℕ) {r : ℕ} {m m' : List ℕ} → Decrypted set (plainPart (paramsOf set) sk) ct m r m' →
       Decrypted set′ (plainPart (paramsOf set′) sk) ct m r m'
-  decrypted-as sk c = record { answers = rw e at (c .answers); writes = rw e at (c .writes) }
+  decrypted-as sk ct c = record { answers = rw e at (c .answers); writes = rw e at (c .writes) }
 
 module _
     (sets : SetNumbers) (matrixSeed secretSeed z seed pk sk ct ss message secret : List ℕ) (r1 r2 r3 r4 : ℕ)
@@ -63,25 +63,35 @@ module _
 
   -- the calls under the number that keys are generated under
   encapsulation : Encapsulated set pk' seed ct ss r2 ct' ss'
-  encapsulation = encapsulated-as (ready .oneSet .encaps) (calls .encaps)
+  encapsulation = encapsulated-as (sets .encaps) set (ready .oneSet .encaps) (calls .encaps)
 
   decryption : Decrypted set (plainPart p sk') ct' message r3 message'
-  decryption = decrypted-as (ready .oneSet .decrypt) sk' (calls .decrypt)
+  decryption = decrypted-as (sets .decrypt) set (ready .oneSet .decrypt) sk' ct' (calls .decrypt)
 
   decapsulation : Decapsulated set sk' ct' secret r4 secret'
-  decapsulation = decapsulated-as (ready .oneSet .decaps) (calls .decaps)
+  decapsulation = decapsulated-as (sets .decaps) set (ready .oneSet .decaps) sk' ct' (calls .decaps)
 
   keygen-accepts : r1 ≡ 0
   keygen-accepts =
       calls .keygen .answers ∙
       none-no (keygenQuestions set (length matrixSeed) (length secretSeed) (length z) (length pk) (length sk)) (
         known,
-        eq-eqb _ 32 (ready .matrixSeedLong),
-        eq-eqb _ 32 (ready .secretSeedLong),
-        eq-eqb _ 32 (ready .zLong),
-        eq-eqb _ (p .pk) (ready .pkLong),
-        eq-eqb _ (p .sk) (ready .skLong),
-        tt,
+        (
+          eq-eqb _ 32 (ready .matrixSeedLong),
+          (
+            eq-eqb _ 32 (ready .secretSeedLong),
+            (
+              eq-eqb _ 32 (ready .zLong),
+              (
+                eq-eqb _ (p .pk) (ready .pkLong),
+                (
+                  eq-eqb _ (p .sk) (ready .skLong),
+                  (tt),
+                ),
+              ),
+            ),
+          ),
+        ),
       )
 
   pk-is : pk' ≡ publicKey p matrixSeed secretSeed
@@ -95,11 +105,19 @@ module _
       encapsulation .answers ∙
       none-no (encapsQuestions set (length pk') (length seed) (length ct) (length ss)) (
         known,
-        eq-eqb _ 32 (ready .seedLong),
-        eq-eqb _ (p .pk) (ap length pk-is ∙ length-public p row matrixSeed secretSeed z),
-        eq-eqb _ (p .ct) (ready .ctLong),
-        eq-eqb _ 32 (ready .ssLong),
-        tt,
+        (
+          eq-eqb _ 32 (ready .seedLong),
+          (
+            eq-eqb _ (p .pk) (ap length pk-is ∙ length-public p row matrixSeed secretSeed z),
+            (
+              eq-eqb _ (p .ct) (ready .ctLong),
+              (
+                eq-eqb _ 32 (ready .ssLong),
+                (tt),
+              ),
+            ),
+          ),
+        ),
       )
 
   ct-is : ct' ≡ seedsCiphertext p matrixSeed secretSeed seed
@@ -114,10 +132,16 @@ module _
       decryption .answers ∙
       none-no (decryptQuestions set (length (plainPart p sk')) (length ct') (length message)) (
         known,
-        eq-eqb _ (416 * p .l) (ap (λ (k : List ℕ). length (plainPart p k)) sk-is ∙ length-plainPart p row matrixSeed secretSeed z),
-        eq-eqb _ (p .ct) ct-long,
-        eq-eqb _ 32 (ready .messageLong),
-        tt,
+        (
+          eq-eqb _ (416 * p .l) (ap (λ (k : List ℕ). length (plainPart p k)) sk-is ∙ length-plainPart p row matrixSeed secretSeed z),
+          (
+            eq-eqb _ (p .ct) ct-long,
+            (
+              eq-eqb _ 32 (ready .messageLong),
+              (tt),
+            ),
+          ),
+        ),
       )
 
   decaps-accepts : r4 ≡ 0
@@ -125,10 +149,16 @@ module _
       decapsulation .answers ∙
       none-no (decapsQuestions set (length sk') (length ct') (length secret)) (
         known,
-        eq-eqb _ (p .sk) (ap length sk-is ∙ length-secretKey p row matrixSeed secretSeed z (ready .zLong)),
-        eq-eqb _ (p .ct) ct-long,
-        eq-eqb _ 32 (ready .secretLong),
-        tt,
+        (
+          eq-eqb _ (p .sk) (ap length sk-is ∙ length-secretKey p row matrixSeed secretSeed z (ready .zLong)),
+          (
+            eq-eqb _ (p .ct) ct-long,
+            (
+              eq-eqb _ 32 (ready .secretLong),
+              (tt),
+            ),
+          ),
+        ),
       )
 
   -- no call refuses, whatever the seeds hold
@@ -157,8 +187,9 @@ unfolding paramsOf
 mixed h = absurd (omega (arith, ap (λ (p : Params). p .l) (h .encaps)))
 
 -- the same string is decrypted
-pub same-string : {set r : ℕ} {plain x ct m m' : List ℕ} → plain ≡ x → Decrypted set plain ct m r m' → Decrypted set x ct m r m'
-same-string {set} {r} {ct = ct} {m = m} {m' = m'} e = subst (λ (y : List ℕ). Decrypted set y ct m r m') e
+pub same-string :
+    (set : ℕ) (ct : List ℕ) {r : ℕ} {plain x m m' : List ℕ} → plain ≡ x → Decrypted set plain ct m r m' → Decrypted set x ct m r m'
+same-string set ct {r} {m = m} {m' = m'} e = subst (λ (y : List ℕ). Decrypted set y ct m r m') e
 
 -- the promise of the four calls in turn
 pub trip :
@@ -176,6 +207,6 @@ trip sets a s z seed pk sk ct ss m t {r1} {r2} {r3} {r4} {r} calls e = record {
   answers = e;
   accepts = λ ready.
       let y = accepts sets a s z seed pk sk ct ss m t r1 r2 r3 r4 _ _ _ _ _ _ ready calls in
-      (y, e ∙ none-no (refusals r1 r2 r3 r4) (eq-eqb r1 0 (y .keygen), eq-eqb r2 0 (y .encaps), eq-eqb r3 0 (y .decrypt), eq-eqb r4 0 (y .decaps), tt));
+      (y, e ∙ none-no (refusals r1 r2 r3 r4) (eq-eqb r1 0 (y .keygen), (eq-eqb r2 0 (y .encaps), (eq-eqb r3 0 (y .decrypt), (eq-eqb r4 0 (y .decaps), tt)))));
   agrees = λ ready within. agreed sets a s z seed pk sk ct ss m t r1 r2 r3 r4 _ _ _ _ _ _ ready calls within;
 }
