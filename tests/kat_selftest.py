@@ -32,7 +32,7 @@ def reversed_entry(number, seed, name):
         if name == REJECTION:
             # An honest capsule is never rejected.
             ct = damaged(entry.ct)
-            entry = entry._replace(ct=ct, ss=saber.unsealed(saber.SETS[number], entry.sk, ct))
+            entry = entry._replace(ct=ct, ss=saber.decaps(saber.SETS[number], entry.sk, ct))
     return entry
 
 

@@ -38,7 +38,7 @@ def differences(library, entry, part):
     set = saber.SETS[number]
     *seeds, sealing_seed = drawn(entry.seed)
     damaged = with_bit_turned(entry.ct, round(part * (8 * set.ciphertext - set.data_width)))
-    rejected = saber.unsealed(set, entry.sk, damaged)
+    rejected = saber.decaps(set, entry.sk, damaged)
 
     def differs(function, inputs, expected):
         outputs = [ctypes.create_string_buffer(len(string)) for string in expected]
