@@ -28,9 +28,11 @@ class Slice(NamedTuple):
     question: int | None = None
     bound: int | Callable | None = None  # what coefficients lie below
 
+    def size(self, meaning):
+        return self.length(meaning) if callable(self.length) else self.length
 
-def at(value, meaning):
-    return value(meaning) if callable(value) else value
+    def limit(self, meaning):
+        return self.bound(meaning) if callable(self.bound) else self.bound
 
 
 def polynomial(bound):
@@ -98,7 +100,7 @@ class Call(NamedTuple):
     def limits(self, arguments):
         """By the place of each input list, what its coefficients have to lie below."""
         lists = [(place, p.role) for place, p in enumerate(self.inputs) if p.role.kind == "list"]
-        return {place: at(role.bound, self.meaning(arguments)) for place, role in lists}
+        return {place: role.limit(self.meaning(arguments)) for place, role in lists}
 
     def yes(self, question, arguments):
         """Whether a question is answered yes, where the earlier ones were."""
@@ -108,7 +110,7 @@ class Call(NamedTuple):
         if question == 8:
             return all(x < limit for place, limit in self.limits(arguments).items() for x in arguments[place])
         pairs = zip(self.parameters, arguments)
-        return all(len(value) == at(p.role.length, meaning) for p, value in pairs if p.question == question)
+        return all(len(value) == p.role.size(meaning) for p, value in pairs if p.question == question)
 
     def run(self, *arguments):
         """The answer, and the outputs as they are afterwards; of a lookup no number, and the part.

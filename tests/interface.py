@@ -237,7 +237,7 @@ def expected_of_header(functions):
 
 # The package
 
-# What its macro makes of a row, which names a number, inputs and outputs: the declaration, the safe function, the call.
+# What its macro makes of a row, which names a number, inputs and outputs: declaration, safe function and call.
 MACRO = (
     "$(fn $export($($number: u32,)? $($input: *const $from, _: usize,)+ $($output: *mut $to, _: usize),+) -> u8;)+",
     "pub fn $name($($number: u32,)? $($input: &[$from],)+ $($output: &mut [$to]),+) -> Result<(), Refusal> {",

@@ -1,4 +1,4 @@
-"""The readings of document 01 that decide what a known-answer entry holds, each of which can be reversed in the oracle.
+"""The readings of document 01 that decide what a known-answer entry holds, each of which the oracle can reverse.
 
 A reversal is laid around the oracle's own functions, so that several can be in force at once.
 """
