@@ -32,8 +32,11 @@ def any_length(draw):
 
 
 def sound_arguments(draw, call, numbers=None, made=lambda meaning: {}):
-    """Arguments of a call that no question refuses. Its number is one of `numbers`, where these are given; `made` gives
-    values by name for what the number means, and all others are drawn."""
+    """Arguments of a call that no question refuses.
+
+    Its number is one of `numbers`, where these are given. `made` gives values by name for what the number means, and
+    all others are drawn.
+    """
     number = next((draw.choice(numbers or [*p.role.meanings]) for p in call.inputs if p.role.kind == "number"), None)
     meaning = call.meaning([number])
     values = made(meaning)
