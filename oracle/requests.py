@@ -22,7 +22,8 @@ import known_answers
 import notation
 import saber
 from calls import CALLS
-from samples import NIST_FILES, bits, counted_secret, draw, draw_list, lent_bytes, lent_list, vectors
+from samples import NIST_FILES, bits, counted_secret, draw, draw_list, flipped, monomial, vectors
+from samples import lent_bytes, lent_list
 
 UNKNOWN_SETS = (4, 5, 4294967295)
 UNKNOWN_WIDTHS = (0, 2, 5, 12, 14, 16, 1024, 4294967295)
@@ -41,16 +42,6 @@ class Line(NamedTuple):
 def ask(name, *arguments, stated=None):
     """A line that makes a call; `stated` is its number and its outputs."""
     return Line(notation.write_request(name, *arguments), stated and notation.write_answer(*stated))
-
-
-def monomial(place, coefficient=1):
-    return [coefficient if i == place else 0 for i in range(256)]
-
-
-def flipped(string, place):
-    """The string with one bit damaged, in the byte at that place."""
-    place %= len(string)
-    return string[:place] + bytes([string[place] ^ 1 << place % 8]) + string[place + 1 :]
 
 
 # Refusals
@@ -655,6 +646,7 @@ def sabercall():
     kinds = Counter()
     for line, answer in zip(lines, given):
         kinds["error" if answer.startswith(b"error") else line.request.split()[0].decode()] += 1
+    assert kinds.keys() == {*CALLS, "error"}, "each call is requested"
     return requests, answers, stated, kinds
 
 

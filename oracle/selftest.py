@@ -11,7 +11,7 @@ import drbg
 import notation
 import saber
 from calls import CALLS, run
-from samples import NIST_FILES, bits, counted_secret, draw, draw_list, vectors
+from samples import NIST_FILES, bits, counted_secret, draw, draw_list, flipped, monomial, vectors
 
 counts = {"checks": 0, "failed": 0}
 
@@ -21,10 +21,6 @@ def check(label, holds):
     if not holds:
         counts["failed"] += 1
         print(f"failed: {label}")
-
-
-def monomial(place, coefficient=1):
-    return [coefficient if i == place else 0 for i in range(256)]
 
 
 def value(bits):
@@ -274,7 +270,7 @@ def damaged(number):
     seeds, public_key, secret_key = keys(number, "damaged")
     _, ciphertext, shared_secret = capsule(number, public_key, "damaged")
     for place in (0, 319, 320 * set.l - 1, 320 * set.l, set.ciphertext - 1):
-        other = bytes(byte ^ (i == place) << place % 8 for i, byte in enumerate(ciphertext))
+        other = flipped(ciphertext, place)
         _, [m] = run("decrypt", number, secret_key[: 416 * set.l], other, bytes(32))
         k = hashlib.sha3_512(m + secret_key[-64:-32]).digest()[:32]
         rejected = hashlib.sha3_256(k + seeds[2]).digest()

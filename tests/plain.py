@@ -18,6 +18,7 @@ sys.path.append(str(ROOT / "oracle"))
 
 import saber
 from known_answers import FILES, SET_OF, drawn, read
+from samples import with_bit_turned
 
 
 def built(folder):
@@ -26,10 +27,6 @@ def built(folder):
     flags = "-std=c99 -O2 -Wall -Wextra -pedantic -Werror -shared -fPIC".split()
     subprocess.run(["cc", *flags, "-o", shared, ROOT / "oracle/plain.c"], check=True)
     return ctypes.CDLL(str(shared))
-
-
-def with_bit_turned(string, bit):
-    return (int.from_bytes(string, "little") ^ 1 << bit).to_bytes(len(string), "little")
 
 
 def differences(library, entry, part):
