@@ -11,8 +11,9 @@ import sys
 ROOT = pathlib.Path(__file__).resolve().parent.parent
 sys.path.append(str(ROOT / "tests"))
 
-from definitions import kind_of
+from definitions import kind_of, specs
 
+KINDS = ("definitions", "rooms", "laws")
 SKIPPED = re.compile(r"\s*(--|//|(ghost |pub )*use )|\s*$")
 SECONDS = re.compile(r"^rt: (\w+) proved \((\d+) s\)", re.MULTILINE)
 
@@ -32,10 +33,10 @@ def main():
     print("|---|--:|--:|--:|--:|--:|--:|--:|")
     for name in (line.split(":")[0] for line in named):
         crate = root / "crates" / name
-        specs = [*crate.glob("specs/**/*.antt")]
+        files = specs(crate).items()
         row = [
             lines(crate.glob("src/**/*.rt")),
-            *(lines(path for path in specs if kind_of(path) == kind) for kind in ("definitions", "rooms", "laws")),
+            *(lines(path for file, path in files if kind_of(file) == kind) for kind in KINDS),
             lines(crate.glob("proofs/**/*.antt")),
             len([*crate.glob("must-fail/*.edit")]),
             int(seconds[name]),

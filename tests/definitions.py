@@ -31,20 +31,18 @@ NAME = re.compile(r"^pub mod \w+\s*$", re.MULTILINE)
 NAMING = {"Lib": "names", "Laws": "names", "Rooms": "rooms"}
 
 
-def kind_of(path):
-    """What a file below specs/ holds: definitions, rooms, laws or names of others. None where no file should be."""
-    folders = path.parts[path.parts.index("specs") + 1 : -1]
-    if not folders:
-        return NAMING.get(path.stem, "definitions")
-    return "laws" if folders == ("Laws",) else None
+def kind_of(name):
+    """What a file of a name below specs/ holds: definitions, rooms, laws or names; None where no file should be."""
+    folder, slash, file = name.rpartition("/")
+    if not slash:
+        return NAMING.get(file, "definitions")
+    return "laws" if folder == "Laws" else None
 
 
-def specs(root):
-    """The files below specs/ of every crate, as crate, name and path."""
-    for crate in sorted((root / "crates").iterdir()):
-        for path in sorted(crate.glob("specs/**/*.antt")):
-            name = path.relative_to(crate / "specs").with_suffix("").as_posix()
-            yield crate.name, name, path
+def specs(crate):
+    """The files below a crate's specs/ by their names."""
+    folder = crate / "specs"
+    return {path.relative_to(folder).with_suffix("").as_posix(): path for path in sorted(folder.glob("**/*.antt"))}
 
 
 def code(path):
@@ -77,13 +75,14 @@ def citations(holder, text, allowed):
 
 def main():
     root = Path(sys.argv[1]) if len(sys.argv) > 1 else ROOT
-    kinds = {(crate, name): kind_of(path) for crate, name, path in specs(root)}
-    definitions = {key for key, kind in kinds.items() if kind == "definitions"}
-    with_rooms = definitions | {key for key, kind in kinds.items() if kind == "rooms"}
+    crates = sorted((root / "crates").iterdir())
+    files = {(crate.name, name): path for crate in crates for name, path in specs(crate).items()}
+    definitions = {key for key in files if kind_of(key[1]) == "definitions"}
+    with_rooms = definitions | {key for key in files if kind_of(key[1]) == "rooms"}
 
     failed = []
-    for crate, name, path in specs(root):
-        holder, text, kind = f"{crate}/{name}", code(path), kinds[crate, name]
+    for (crate, name), path in files.items():
+        holder, text, kind = f"{crate}/{name}", code(path), kind_of(name)
         if kind is None:
             failed.append(f"{holder} stands in no place of the layout")
         if kind == "names":
@@ -97,7 +96,7 @@ def main():
     for path in sources:
         holder, text = path.relative_to(root / "crates").as_posix(), code(path)
         failed += citations(holder, text, with_rooms)
-        asked = {"requires", "Rooms", *(word for names in ROOMS.findall(text) for word in names.split(", "))}
+        asked = {"requires", "Rooms", *re.split(r",\s*", ", ".join(ROOMS.findall(text)))}
         for public, is_open, name, rest in functions(text):
             if is_open:
                 called.add(name)
