@@ -22,6 +22,7 @@ import saber
 
 JAR = pathlib.Path("/usr/share/java/bcprov.jar")
 CALLS = ("keygen", "encaps", "decaps")
+MATRIX, KECCAK = "ring::matrix_into", "keccak::permute"  # as callgrind names them: matrix times vector, Keccak-f
 ROWS = [(number, call) for number in saber.SETS for call in CALLS]
 
 # Document 000, section 5: cycles of a 2.6 GHz processor.
@@ -84,10 +85,10 @@ def shares(counts, number, call):
     """The parts of Keccak-f and of the products. In keygen the matrix's products stand in a function of their own,
     which gives the price of one; encaps has l more of them than keygen, and decaps 2 l more."""
     rank = saber.SETS[number].l
-    one = counts[number, "keygen"]["ring::matrix_into"] / rank**2
+    one = counts[number, "keygen"][MATRIX] / rank**2
     products = rank**2 + rank * CALLS.index(call)
     row = counts[number, call]
-    return row["keccak::permute"] / row["TOTALS"], one * products / row["TOTALS"]
+    return row[KECCAK] / row["TOTALS"], one * products / row["TOTALS"]
 
 
 def title(number, call):
