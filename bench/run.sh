@@ -1,5 +1,6 @@
 #!/bin/sh
-# Builds the archive and measures it: the scheme beside others, one ring product beside plain C, the hashes beside OpenSSL's.
+# Builds the archive and measures it: the scheme beside others, one ring product beside plain C, the hashes beside
+# OpenSSL's.
 set -eu
 cd "$(dirname "$0")/.."
 rt staticlib saber

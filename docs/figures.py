@@ -1,37 +1,44 @@
 #!/usr/bin/env python3
-"""figures.py LOG: the repository's figures by crate, for docs/PROOFS.md: lines of code, of definitions, of laws and of proofs, neither blank
-nor comment nor import, the wrong programs that the check must refuse, and the seconds that the check took, from LOG, what `rt ci` printed.
-Definitions are the files whose first comment says `Definitions only.`; laws are the other files of specs/."""
+"""figures.py LOG [ROOT]: the repository's figures by crate, for docs/PROOFS.md.
+
+Lines of code, of definitions, of rooms (what inner functions ask of lengths), of laws and of proofs, neither blank nor
+comment nor import; the wrong programs that the check must refuse; and the seconds that the check took, from LOG, what
+`rt ci` printed. tests/definitions.py says which file of specs/ is what."""
 import pathlib
 import re
 import sys
 
-CRATES = pathlib.Path(__file__).resolve().parent.parent / "crates"
-MARK = "Definitions only."
+ROOT = pathlib.Path(__file__).resolve().parent.parent
+sys.path.append(str(ROOT / "tests"))
+
+from definitions import kind_of, specs
+
+KINDS = ("definitions", "rooms", "laws")
+SKIPPED = re.compile(r"\s*(--|//|(ghost |pub )*use )|\s*$")
+SECONDS = re.compile(r"^rt: (\w+) proved \((\d+) s\)", re.MULTILINE)
 
 
 def lines(paths):
-    skipped = re.compile(r"\s*(--|//|(ghost |pub )*use )|\s*$")
-    return sum(not skipped.match(line) for path in paths for line in path.read_text().splitlines())
+    return sum(not SKIPPED.match(line) for path in paths for line in path.read_text().splitlines())
 
 
 def main():
-    if len(sys.argv) != 2:
+    if len(sys.argv) not in (2, 3):
         sys.exit(__doc__)
-    order = [line.split(":")[0] for line in (CRATES.parent / "crates.txt").read_text().splitlines() if not line.startswith("#")]
-    seconds = dict(re.findall(r"^rt: (\w+) proved \((\d+) s\)", pathlib.Path(sys.argv[1]).read_text(), re.MULTILINE))
-    total = [0] * 6
-    print("| crate | code | definitions | laws | proofs | wrong programs | seconds |")
-    print("|---|--:|--:|--:|--:|--:|--:|")
-    for name in order:
-        specs = [path for path in (CRATES / name).glob("specs/*.antt") if path.stem != "Lib"]
-        definitions = [path for path in specs if MARK in path.read_text()]
+    root = pathlib.Path(sys.argv[2]) if len(sys.argv) == 3 else ROOT
+    named = [line for line in (root / "crates.txt").read_text().splitlines() if not line.startswith("#")]
+    seconds = dict(SECONDS.findall(pathlib.Path(sys.argv[1]).read_text()))
+    total = [0] * 7
+    print("| crate | code | definitions | rooms | laws | proofs | wrong programs | seconds |")
+    print("|---|--:|--:|--:|--:|--:|--:|--:|")
+    for name in (line.split(":")[0] for line in named):
+        crate = root / "crates" / name
+        files = specs(crate).items()
         row = [
-            lines((CRATES / name).glob("src/*.rt")),
-            lines(definitions),
-            lines(path for path in specs if path not in definitions),
-            lines((CRATES / name).glob("proofs/**/*.antt")),
-            len(list((CRATES / name).glob("must-fail/*.edit"))),
+            lines(crate.glob("src/**/*.rt")),
+            *(lines(path for file, path in files if kind_of(file) == kind) for kind in KINDS),
+            lines(crate.glob("proofs/**/*.antt")),
+            len([*crate.glob("must-fail/*.edit")]),
             int(seconds[name]),
         ]
         total = [sum(pair) for pair in zip(total, row)]

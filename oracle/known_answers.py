@@ -8,7 +8,6 @@ import saber
 from drbg import Drbg, known_answer_seeds
 from samples import lent_bytes
 
-NAMES = {1: "LightSaber", 2: "Saber", 3: "FireSaber"}
 SET_OF = {set.public_key: number for number, set in saber.SETS.items()}  # by the length of the public key
 ENTRIES = 20  # of a file that is written
 
@@ -49,8 +48,8 @@ def entry_of(set_number, seed):
     """The oracle's entry."""
     set = saber.SETS[set_number]
     matrix_seed, secret_seed, z, sealing_seed = drawn(seed)
-    pk, sk = saber.key_pair(set, matrix_seed, secret_seed, z)
-    return Entry(seed, pk, sk, *saber.sealed(set, pk, sealing_seed))
+    pk, sk = saber.keygen(set, matrix_seed, secret_seed, z)
+    return Entry(seed, pk, sk, *saber.encaps(set, pk, sealing_seed))
 
 
 # The format
@@ -58,7 +57,7 @@ def entry_of(set_number, seed):
 
 def write(set_number):
     """The text of a file made by the oracle."""
-    lines = [f"# {NAMES[set_number]}", ""]
+    lines = [f"# {saber.NAMES[set_number]}", ""]
     for count, seed in enumerate(known_answer_seeds(ENTRIES)):
         lines.append(f"count = {count}")
         lines += [f"{name} = {value.hex().upper()}" for name, value in entry_of(set_number, seed)._asdict().items()]

@@ -11,7 +11,7 @@ after the call. Lines that begin with `#` are comments.
 import struct
 import sys
 
-import saber
+from calls import CALLS
 
 LONGEST = 65536
 DECIMAL = b"0123456789"
@@ -77,16 +77,15 @@ def read_request(line):
     if len(line) > LONGEST:
         raise Unreadable("too long")
     name, *words = line.split(b" ")
-    call = next((call for known, call in saber.CALLS.items() if known.encode() == name), None)
+    call = next((call for call in CALLS.values() if call.name.encode() == name), None)
     if not call:
         raise Unreadable("unknown call")
-    kinds = call.inputs + call.outputs
     arguments = []
-    for i, kind in enumerate(kinds):
+    for i, parameter in enumerate(call.parameters):
         if i == len(words):
             raise Unreadable("wrong count")
-        arguments.append(READERS[kind](words[i]))
-    if len(words) > len(kinds):
+        arguments.append(READERS[parameter.role.kind](words[i]))
+    if len(words) > len(arguments):
         raise Unreadable("wrong count")
     return call, arguments
 

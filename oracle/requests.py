@@ -21,9 +21,10 @@ from typing import Callable, NamedTuple
 import known_answers
 import notation
 import saber
-from samples import NIST_FILES, bits, counted_secret, draw, draw_list, lent_bytes, lent_list, vectors
+from calls import CALLS
+from samples import NIST_FILES, bits, counted_secret, draw, draw_list, flipped, monomial, vectors
+from samples import lent_bytes, lent_list
 
-NUMBERS = (0, 1, 2, 3)
 UNKNOWN_SETS = (4, 5, 4294967295)
 UNKNOWN_WIDTHS = (0, 2, 5, 12, 14, 16, 1024, 4294967295)
 UNKNOWN_MODULI = (1000, 0, 1, 13, 1023, 1025, 8191, 8193, 65536, 4294967295)
@@ -43,36 +44,7 @@ def ask(name, *arguments, stated=None):
     return Line(notation.write_request(name, *arguments), stated and notation.write_answer(*stated))
 
 
-def monomial(place, coefficient=1):
-    return [coefficient if i == place else 0 for i in range(256)]
-
-
-def flipped(string, place):
-    """The string with one bit damaged, in the byte at that place."""
-    place %= len(string)
-    return string[:place] + bytes([string[place] ^ 1 << place % 8]) + string[place + 1 :]
-
-
 # Refusals
-
-# The question that is asked of each argument: of a number its value, else its length. 0: none.
-ASKED = {
-    "keygen": (1, 3, 3, 3, 9, 9),
-    "encaps": (1, 4, 3, 9, 9),
-    "decaps": (1, 5, 6, 9),
-    "encrypt": (1, 4, 3, 3, 9),
-    "decrypt": (1, 5, 6, 9),
-    "gen_matrix": (1, 3, 9),
-    "gen_secret": (1, 3, 9),
-    "poly_mul": (2, 7, 7, 9),
-    "round": (7, 9),
-    "recon_data": (1, 7, 9),
-    "recover": (1, 7, 7, 9),
-    "pack": (2, 7, 9),
-    "unpack": (2, 7, 9),
-    "sha3_256": (0, 9),
-    "sha3_512": (0, 9),
-}
 
 
 class Fault(NamedTuple):
@@ -97,32 +69,33 @@ def refused(name, sound, *faults):
     arguments = list(sound)
     for fault in faults:
         arguments[fault.place] = fault.change(arguments[fault.place])
-    outputs = arguments[len(saber.CALLS[name].inputs) :]
+    outputs = arguments[len(CALLS[name].inputs) :]
     return ask(name, *arguments, stated=(min(fault.answer for fault in faults), outputs))
 
 
-def refusals(title, name, sound, unknown=(), limits={}, whole=True):
-    """The refusals of a call whose sound arguments are given: each alone and, if `whole`, two at once.
-
-    `unknown` holds numbers to refuse, `limits` the least coefficient too large for the list at a place.
-    Lengths are one under and one over and, if `whole`, 0.
-    """
-    alone, one_each = [], []
-    for place, question in enumerate(ASKED[name]):
-        if question in (1, 2):
-            faults = [Fault(question, place, becomes(number)) for number in unknown]
+def faults_of(call, sound, unknown, whole):
+    """The faults of each argument whose number or length is asked about, then those of each list's coefficients."""
+    for place, parameter in enumerate(call.parameters):
+        question = parameter.question
+        if parameter.role.kind == "number":
+            yield [Fault(question, place, becomes(number)) for number in unknown]
         elif question:
             size = len(sound[place])
             lengths = (size + 1, size - 1) if question == 9 else (size - 1, size + 1)
-            faults = [Fault(question, place, resized(length)) for length in (*lengths, *([0] if whole else []))]
-        else:
-            continue
-        alone += faults
-        one_each += faults[:1]
-    for place, limit in limits.items():
-        faults = [Fault(8, place, put(at, x)) for x in (limit, 65535) for at in (0, 255)]
-        alone += faults
-        one_each.append(faults[0])
+            yield [Fault(question, place, resized(length)) for length in (*lengths, *([0] if whole else []))]
+    for place, limit in call.limits(sound).items():
+        yield [Fault(8, place, put(at, x)) for x in (limit, 65535) for at in (0, 255)]
+
+
+def refusals(title, name, sound, unknown=(), whole=True):
+    """The refusals of a call whose sound arguments are given: each alone and, if `whole`, two at once.
+
+    `unknown` holds numbers to refuse. Lengths are one under and one over and, if `whole`, 0. One coefficient of a list
+    is the least that is too large, or the largest of all.
+    """
+    faults = [*faults_of(CALLS[name], sound, unknown, whole)]
+    alone = [fault for some in faults for fault in some]
+    one_each = [some[0] for some in faults if some]
     yield f"# {title}: each refusal alone"
     for fault in alone:
         yield refused(name, sound, fault)
@@ -133,9 +106,10 @@ def refusals(title, name, sound, unknown=(), limits={}, whole=True):
         yield refused(name, sound, *one_each)
 
 
-def unknown_sets(number):
-    """Unknown sets are asked for once, together with the arguments of set 1."""
-    return UNKNOWN_SETS if number == 1 else ()
+def set_refusals(name, number, sound):
+    """The refusals of a call with a set number: whole once, with the arguments of set 1."""
+    first = number == 1
+    return refusals(f"{name}, set {number}", name, sound, UNKNOWN_SETS if first else (), first)
 
 
 # The sections, one for each call and one for the known answers
@@ -159,7 +133,7 @@ def pack_section():
         yield ask("pack", width, monomial(0, limit - 1), lent)
         yield ask("pack", width, monomial(255, limit - 1), lent)
         sound = [width, draw_list(f"pack {width} refused", limit), lent]
-        yield from refusals(f"pack, width {width}", "pack", sound, (5, 11), {1: limit})
+        yield from refusals(f"pack, width {width}", "pack", sound, (5, 11))
     yield "# pack: unknown widths, with buffers that would fit them"
     for width in UNKNOWN_WIDTHS:
         lent = lent_bytes(32 * min(width, 16))
@@ -190,8 +164,7 @@ def unpack_section():
 
 
 def public_key_of_section():
-    for number in NUMBERS:
-        set = saber.parameters(number)
+    for number, set in saber.NUMBERS.items():
         yield f"# public_key_of, set {number}: any secret keys"
         for turn in range(3):
             public_key = draw(f"lookup {number} {turn} public key", set.public_key)
@@ -274,8 +247,8 @@ def poly_mul_section():
         yield ask("poly_mul", modulus, monomial(255, top), monomial(255, top), lent, stated=(0, [monomial(254, top)]))
         yield ask("poly_mul", modulus, monomial(0, top), monomial(255, top), lent, stated=(0, [monomial(255)]))
         sound = [modulus, a, draw_list(f"poly_mul {modulus} b", modulus), lent]
-        unknown, limits = UNKNOWN_MODULI if modulus == 8192 else (1000,), {1: modulus, 2: modulus}
-        yield from refusals(f"poly_mul, modulus {modulus}", "poly_mul", sound, unknown, limits)
+        unknown = UNKNOWN_MODULI if modulus == 8192 else (1000,)
+        yield from refusals(f"poly_mul, modulus {modulus}", "poly_mul", sound, unknown)
 
 
 def round_section():
@@ -286,18 +259,17 @@ def round_section():
         yield ask("round", list(range(start, start + 256)), lent_list())
     for turn in range(3):
         yield ask("round", draw_list(f"round {turn}", 8192), lent_list())
-    yield from refusals("round", "round", [draw_list("round refused", 8192), lent_list()], limits={0: 8192})
+    yield from refusals("round", "round", [draw_list("round refused", 8192), lent_list()])
 
 
 def gen_section(name, size):
-    for number in NUMBERS:
-        set = saber.parameters(number)
+    for number, set in saber.NUMBERS.items():
         yield f"# {name}, set {number}: a seed of 0, of ones, random ones"
         for seed in (bytes(32), ONES, *(draw(f"{name} {number} {turn}", 32) for turn in range(3))):
             yield ask(name, number, seed, lent_list(size(set)))
         sound = [number, draw(f"{name} {number} refused", 32), lent_list(size(set))]
-        yield from refusals(f"{name}, set {number}", name, sound, unknown_sets(number), whole=number == 1)
-        other = saber.parameters(number % 3 + 1)
+        yield from set_refusals(name, number, sound)
+        other = saber.NUMBERS[number % 3 + 1]
         yield f"# {name}, set {number}: an output for another set"
         yield ask(name, number, bytes(32), lent_list(size(other)), stated=(9, [lent_list(size(other))]))
 
@@ -314,7 +286,7 @@ SAMPLED = ((1, "d71d", "e003", 8187), (2, "3d", "f0", 8188), (2, "28", "0f", 4),
 def gen_secret_section():
     yield "# gen_secret: the cases of document 01, from seeds whose SHAKE-128 output starts with the bytes of the case"
     for number, start, string, coefficient in SAMPLED:
-        set, seed = saber.parameters(number), bytes.fromhex(start).ljust(32, b"\0")
+        set, seed = saber.NUMBERS[number], bytes.fromhex(start).ljust(32, b"\0")
         secret = [x % 8192 for x in counted_secret(seed, set.l, set.mu)]
         assert hashlib.shake_128(seed).hexdigest(len(string) // 2) == string and secret[0] == coefficient
         yield ask("gen_secret", number, seed, lent_list(256 * set.l), stated=(0, [secret]))
@@ -324,22 +296,20 @@ def gen_secret_section():
 def recon_data_section():
     yield "# recon_data: the case of document 01, w = 63 + 512"
     yield ask("recon_data", 2, [575] * 256, lent_list(), stated=(0, [[8] * 256]))
-    for number in NUMBERS:
+    for number in saber.NUMBERS:
         yield f"# recon_data, set {number}: every value, then random ones"
         for start in range(0, 1024, 256):
             yield ask("recon_data", number, list(range(start, start + 256)), lent_list())
         w = draw_list(f"recon_data {number}", 1024)
         yield ask("recon_data", number, w, lent_list())
-        sound, limits = [number, w, lent_list()], {1: 1024}
-        yield from refusals(f"recon_data, set {number}", "recon_data", sound, unknown_sets(number), limits, number == 1)
+        yield from set_refusals("recon_data", number, [number, w, lent_list()])
 
 
 def recover_section():
     yield "# recover: the cases of document 01"
     for v, bit in ((287, 1), (288, 0), (800, 1), (799, 0)):
         yield ask("recover", 2, [v] * 256, [8] * 256, lent_list(), stated=(0, [[bit] * 256]))
-    for number in NUMBERS:
-        set = saber.parameters(number)
+    for number, set in saber.NUMBERS.items():
         limit = 1024 // set.g
         yield f"# recover, set {number}: around both ends of each data's range, then random"
         ends = [(data, set.g * data - set.margin + half) for data in range(limit) for half in (0, 512)]
@@ -353,43 +323,42 @@ def recover_section():
             yield ask("recover", number, v, data, lent_list())
         yield ask("recover", number, [1023] * 256, [limit - 1] * 256, lent_list())
         yield ask("recover", number, ZERO, ZERO, lent_list())
-        sound, limits = [number, v, data, lent_list()], {1: 1024, 2: limit}
-        yield from refusals(f"recover, set {number}", "recover", sound, unknown_sets(number), limits, number == 1)
+        yield from set_refusals("recover", number, [number, v, data, lent_list()])
 
 
 @functools.cache
 def keys(number, turn):
     """The seeds of making, and the keys; the first turns have seeds of 0 and of ones."""
-    set = saber.parameters(number)
+    set = saber.NUMBERS[number]
     drawn = [draw(f"keygen {number} {turn} {name}", 32) for name in ("matrix seed", "secret seed", "z")]
     seeds = {0: [bytes(32)] * 3, 1: [ONES] * 3}.get(turn, drawn)
-    return seeds, *saber.key_pair(set, *seeds)
+    return seeds, *saber.keygen(set, *seeds)
 
 
 @functools.cache
 def capsule(number, turn):
     """The seed of sealing to the key of that turn, the ciphertext and the shared secret."""
     seed = {0: bytes(32), 1: ONES}.get(turn, draw(f"encaps {number} {turn}", 32))
-    return seed, *saber.sealed(saber.parameters(number), keys(number, turn)[1], seed)
+    return seed, *saber.encaps(saber.NUMBERS[number], keys(number, turn)[1], seed)
 
 
 def scheme_refusals(name, sound_of):
     """The refusals of a call of the scheme, whose sound arguments for a set `sound_of` gives."""
-    for number in NUMBERS:
-        yield from refusals(f"{name}, set {number}", name, sound_of(number), unknown_sets(number), whole=number == 1)
+    for number in saber.NUMBERS:
+        yield from set_refusals(name, number, sound_of(number))
         yield f"# {name}, set {number}: the arguments of another set"
         other = sound_of(number % 3 + 1)
-        lengths = zip(ASKED[name][1:], sound_of(number)[1:], other[1:])
-        answer = min(question for question, ours, theirs in lengths if len(ours) != len(theirs))
-        yield ask(name, number, *other[1:], stated=(answer, other[len(saber.CALLS[name].inputs) :]))
+        lengths = zip(CALLS[name].parameters[1:], sound_of(number)[1:], other[1:])
+        answer = min(parameter.question for parameter, ours, theirs in lengths if len(ours) != len(theirs))
+        yield ask(name, number, *other[1:], stated=(answer, other[len(CALLS[name].inputs) :]))
 
 
 def keygen_section():
     def sound(number, turn=2):
-        set = saber.parameters(number)
+        set = saber.NUMBERS[number]
         return [number, *keys(number, turn)[0], lent_bytes(set.public_key), lent_bytes(set.secret_key)]
 
-    for number in NUMBERS:
+    for number in saber.NUMBERS:
         yield f"# keygen, set {number}: seeds of 0, of ones, random ones"
         for turn in range(8):
             yield ask("keygen", *sound(number, turn))
@@ -398,7 +367,7 @@ def keygen_section():
 
 def encaps_section():
     def sound(number, turn=2):
-        lent = [lent_bytes(saber.parameters(number).ciphertext), lent_bytes(32)]
+        lent = [lent_bytes(saber.NUMBERS[number].ciphertext), lent_bytes(32)]
         return [number, keys(number, turn)[1], capsule(number, turn)[0], *lent]
 
     yield "# encaps: the cases of document 01"
@@ -406,12 +375,12 @@ def encaps_section():
     for number, size, length, answer in ((2, 991, 32, 4), (2, 993, 32, 4), (4, 992, 32, 1), (4, 992, 31, 1)):
         yield ask("encaps", number, draw("encaps case", size), bytes(length), *lent, stated=(answer, lent))
     yield ask("encaps", 2, draw("encaps case", 992), bytes(32), *lent)
-    for number in NUMBERS:
+    for number in saber.NUMBERS:
         yield f"# encaps, set {number}: to keys that keygen makes"
         for turn in range(8):
             yield ask("encaps", *sound(number, turn))
         yield f"# encaps, set {number}: to any bytes as a public key"
-        size = saber.parameters(number).public_key
+        size = saber.NUMBERS[number].public_key
         for public_key in (draw(f"encaps {number} any", size), bytes(size), bytes([255]) * size):
             yield ask("encaps", number, public_key, *sound(number)[2:])
     yield from scheme_refusals("encaps", sound)
@@ -421,8 +390,8 @@ def decaps_section():
     def sound(number, turn=2):
         return [number, keys(number, turn)[2], capsule(number, turn)[1], lent_bytes(32)]
 
-    for number in NUMBERS:
-        set, lent = saber.parameters(number), lent_bytes(32)
+    for number in saber.NUMBERS:
+        set, lent = saber.NUMBERS[number], lent_bytes(32)
         yield f"# decaps, set {number}: ciphertexts that encaps makes"
         for turn in range(8):
             yield ask("decaps", *sound(number, turn), stated=(0, [capsule(number, turn)[2]]))
@@ -452,14 +421,14 @@ def encrypt_section():
     def sound(number, turn=2):
         drawn = [draw(f"encrypt {number} {turn} {name}", 32) for name in ("message", "seed")]
         message_and_seed = {0: [bytes(32)] * 2, 1: [ONES] * 2}.get(turn, drawn)
-        return [number, keys(number, turn)[1], *message_and_seed, lent_bytes(saber.parameters(number).ciphertext)]
+        return [number, keys(number, turn)[1], *message_and_seed, lent_bytes(saber.NUMBERS[number].ciphertext)]
 
-    for number in NUMBERS:
+    for number in saber.NUMBERS:
         yield f"# encrypt, set {number}: messages and seeds of 0, of ones, random ones"
         for turn in range(8):
             yield ask("encrypt", *sound(number, turn))
         yield f"# encrypt, set {number}: to any bytes as a public key"
-        size = saber.parameters(number).public_key
+        size = saber.NUMBERS[number].public_key
         for public_key in (draw(f"encrypt {number} any", size), bytes([255]) * size):
             yield ask("encrypt", number, public_key, *sound(number)[2:])
     yield from scheme_refusals("encrypt", sound)
@@ -467,18 +436,18 @@ def encrypt_section():
 
 def decrypt_section():
     def sound(number, turn=2):
-        set = saber.parameters(number)
+        set = saber.NUMBERS[number]
         return [number, keys(number, turn)[2][: set.plain_secret], capsule(number, turn)[1], lent_bytes(32)]
 
-    for number in NUMBERS:
-        set, lent = saber.parameters(number), lent_bytes(32)
+    for number in saber.NUMBERS:
+        set, lent = saber.NUMBERS[number], lent_bytes(32)
         yield f"# decrypt, set {number}: ciphertexts that encaps makes"
         for turn in range(4):
-            yield ask("decrypt", *sound(number, turn), stated=(0, [saber.SHA3_256(capsule(number, turn)[0])]))
+            yield ask("decrypt", *sound(number, turn), stated=(0, [saber.sha3_256(capsule(number, turn)[0])]))
         yield f"# decrypt, set {number}: random messages"
         for turn in range(4):
             message = draw(f"decrypt {number} {turn} message", 32)
-            ciphertext = saber.encrypted(set, keys(number, turn)[1], message, draw(f"decrypt {number} {turn} seed", 32))
+            ciphertext = saber.encrypt(set, keys(number, turn)[1], message, draw(f"decrypt {number} {turn} seed", 32))
             yield ask("decrypt", number, sound(number, turn)[1], ciphertext, lent, stated=(0, [message]))
         yield f"# decrypt, set {number}: secret coefficients of any 13 bits, any bytes as a ciphertext"
         for turn in range(3):
@@ -677,6 +646,7 @@ def sabercall():
     kinds = Counter()
     for line, answer in zip(lines, given):
         kinds["error" if answer.startswith(b"error") else line.request.split()[0].decode()] += 1
+    assert kinds.keys() == {*CALLS, "error"}, "each call is requested"
     return requests, answers, stated, kinds
 
 
@@ -703,7 +673,8 @@ def main():
             print(f"{name}: different")
         print(f"{name}: {len(content)} bytes")
     print(", ".join(f"{name} {count}" for name, count in kinds.items()))
-    print(f"{options.action}: {kinds.total()} answers, {stated} of them stated beforehand, {different} files different")
+    total = f"{kinds.total()} answers, {stated} of them stated beforehand"
+    print(f"{options.action}: {total}, {different} files different")
     return 1 if different else 0
 
 

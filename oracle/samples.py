@@ -1,5 +1,5 @@
-"""Material for the tests: values that a label alone decides, what outputs are lent with, secrets counted bit by bit,
-and NIST's published vectors.
+"""Material for the tests: values that a label alone decides, damaged strings, what outputs are lent with, secrets
+counted bit by bit, and NIST's published vectors.
 """
 
 import hashlib
@@ -23,6 +23,20 @@ def draw(label, length):
 def draw_list(label, limit, length=256):
     """Coefficients below `limit`, a power of two, that the label decides."""
     return [x % limit for x in struct.unpack(f"<{length}H", draw(label, 2 * length))]
+
+
+def monomial(place, coefficient=1):
+    return [coefficient if i == place else 0 for i in range(256)]
+
+
+def with_bit_turned(string, bit):
+    return (int.from_bytes(string, "little") ^ 1 << bit).to_bytes(len(string), "little")
+
+
+def flipped(string, place):
+    """The string with one bit damaged, in the byte at that place."""
+    place %= len(string)
+    return with_bit_turned(string, 8 * place + place % 8)
 
 
 def lent_bytes(length):

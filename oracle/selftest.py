@@ -10,9 +10,9 @@ import sys
 import drbg
 import notation
 import saber
-from samples import NIST_FILES, bits, counted_secret, draw, draw_list, vectors
+from calls import CALLS, run
+from samples import NIST_FILES, bits, counted_secret, draw, draw_list, flipped, monomial, vectors
 
-NUMBERS = (0, 1, 2, 3)
 counts = {"checks": 0, "failed": 0}
 
 
@@ -23,19 +23,15 @@ def check(label, holds):
         print(f"failed: {label}")
 
 
-def monomial(place, coefficient=1):
-    return [coefficient if i == place else 0 for i in range(256)]
-
-
 def value(bits):
     return sum(bit << i for i, bit in enumerate(bits))
 
 
 def keys(number, label):
     """The three seeds of making, and the keys a call made of them."""
-    set = saber.parameters(number)
+    set = saber.NUMBERS[number]
     seeds = [draw(f"selftest {number} {label} {name}", 32) for name in ("matrix", "secret", "z")]
-    answer, pair = saber.keygen(number, *seeds, bytes(set.public_key), bytes(set.secret_key))
+    answer, pair = run("keygen", number, *seeds, bytes(set.public_key), bytes(set.secret_key))
     check(f"set {number}: making answers 0", answer == 0)
     return seeds, *pair
 
@@ -43,8 +39,8 @@ def keys(number, label):
 def capsule(number, public_key, label):
     """The seed of sealing, and the ciphertext and shared secret a call made of it."""
     seed = draw(f"selftest {number} {label} sealing", 32)
-    size = saber.parameters(number).ciphertext
-    answer, made = saber.encaps(number, public_key, seed, bytes(size), bytes(32))
+    size = saber.NUMBERS[number].ciphertext
+    answer, made = run("encaps", number, public_key, seed, bytes(size), bytes(32))
     check(f"set {number}: sealing answers 0", answer == 0)
     return seed, *made
 
@@ -52,29 +48,29 @@ def capsule(number, public_key, label):
 def cases():
     """Document 01, "Cases", and the lines of saberset."""
     x = [3, 4, 8187, 8188] + [0] * 252
-    check("rounding", saber.round(x, [7] * 256) == (0, [[0, 1, 1023, 0] + [0] * 252]))
+    check("rounding", run("round", x, [7] * 256) == (0, [[0, 1, 1023, 0] + [0] * 252]))
     for byte, coefficient in ((0xF0, 8188), (0x0F, 4), (0x31, 8191)):
         check(f"set 2 sampling {byte:02X}", saber.modulo(saber.sampled(bytes([byte]), 8), 8192) == [coefficient])
     check("set 1 sampling E0 03", saber.modulo(saber.sampled(bytes.fromhex("e003000000"), 10), 8192)[0] == 8187)
     for width, start, string in ((13, [8191, 0], "ff1f"), (13, [0, 1], "0020"), (10, [0, 1], "0004")):
-        answer, [packed] = saber.pack(width, start + [0] * 254, bytes(32 * width))
+        answer, [packed] = run("pack", width, start + [0] * 254, bytes(32 * width))
         check(f"width {width}: {start}", answer == 0 and packed[:2] == bytes.fromhex(string) and not any(packed[2:]))
-    power = saber.poly_mul(8192, monomial(255), monomial(1), [7] * 256)
+    power = run("poly_mul", 8192, monomial(255), monomial(1), [7] * 256)
     check("X to the 255 times X", power == (0, [monomial(0, 8191)]))
 
     check("set 2, v' = 63, bit 1: data 8", saber.data_of(saber.SETS[2], saber.masked(saber.SETS[2], 63, 1)) == 8)
-    check("data of w = 575", saber.recon_data(2, [575] * 256, [7] * 256) == (0, [[8] * 256]))
+    check("data of w = 575", run("recon_data", 2, [575] * 256, [7] * 256) == (0, [[8] * 256]))
     check("set 2, v' = 0, bit 1: data 8", saber.data_of(saber.SETS[2], saber.masked(saber.SETS[2], 0, 1)) == 8)
     for v, bit in ((287, 1), (288, 0), (800, 1), (799, 0)):
-        check(f"data 8, v = {v}", saber.recover(2, [v] * 256, [8] * 256, [7] * 256) == (0, [[bit] * 256]))
+        check(f"data 8, v = {v}", run("recover", 2, [v] * 256, [8] * 256, [7] * 256) == (0, [[bit] * 256]))
 
     lengths = ((2, 991, 32, 4), (2, 992, 32, 0), (2, 993, 32, 4), (4, 992, 32, 1), (4, 992, 31, 1))
     for number, size, seed, expected in lengths:
-        answer, _ = saber.encaps(number, draw("case", size), bytes(seed), bytes(1088), bytes(32))
+        answer, _ = run("encaps", number, draw("case", size), bytes(seed), bytes(1088), bytes(32))
         check(f"set {number}, public key {size}, seed {seed}", answer == expected)
     for coefficient, expected in ((1023, 0), (1024, 8)):
-        check(f"packing {coefficient}", saber.pack(10, monomial(0, coefficient), bytes(320))[0] == expected)
-    check("product modulo 1000", saber.poly_mul(1000, monomial(0), monomial(0), [7] * 256) == (2, [[7] * 256]))
+        check(f"packing {coefficient}", run("pack", 10, monomial(0, coefficient), bytes(320))[0] == expected)
+    check("product modulo 1000", run("poly_mul", 1000, monomial(0), monomial(0), [7] * 256) == (2, [[7] * 256]))
 
     lines = "set l mu t g pk sk ct margin\n1 2 10 4 128 672 1568 736 192\n2 3 8 8 64 992 2304 1088 224\n"
     check("saberset", saber.table() == lines + "3 4 6 32 16 1312 3040 1472 248\n")
@@ -89,9 +85,9 @@ def cases():
 def hashes():
     for name, files in NIST_FILES.items():
         for message, result in itertools.chain(*map(vectors, files)):
-            answer = saber.CALLS[name].run(message, bytes(len(result)))
+            answer = run(name, message, bytes(len(result)))
             check(f"{name} of {len(message)} bytes", answer == (0, [result]))
-    check("SHAKE-128 of no output", saber.shake128(b"any", b"") == (0, [b""]))
+    check("SHAKE-128 of no output", run("shake128", b"any", b"") == (0, [b""]))
 
 
 def random_bytes():
@@ -109,13 +105,13 @@ def packing():
     for width in saber.WIDTHS:
         for turn in range(5):
             numbers = draw_list(f"selftest packing {width} {turn}", 1 << width)
-            _, [string] = saber.pack(width, numbers, bytes(32 * width))
+            _, [string] = run("pack", width, numbers, bytes(32 * width))
             laid = [x >> i & 1 for x in numbers for i in range(width)]
             check(f"width {width}: packed bits", bits(string) == laid)
-            check(f"width {width}: unpack after pack", saber.unpack(width, string, [7] * 256) == (0, [numbers]))
+            check(f"width {width}: unpack after pack", run("unpack", width, string, [7] * 256) == (0, [numbers]))
             string = draw(f"selftest unpacking {width} {turn}", 32 * width)
-            _, [numbers] = saber.unpack(width, string, [7] * 256)
-            check(f"width {width}: pack after unpack", saber.pack(width, numbers, bytes(32 * width)) == (0, [string]))
+            _, [numbers] = run("unpack", width, string, [7] * 256)
+            check(f"width {width}: pack after unpack", run("pack", width, numbers, bytes(32 * width)) == (0, [string]))
 
 
 def ring():
@@ -130,28 +126,28 @@ def ring():
     for place in (0, 1, 128, 255):
         a = draw_list("selftest shift", 8192)
         shifted = [-x % 8192 for x in a[256 - place :]] + a[: 256 - place]
-        check(f"times X to the {place}", saber.poly_mul(8192, a, monomial(place), [7] * 256) == (0, [shifted]))
+        check(f"times X to the {place}", run("poly_mul", 8192, a, monomial(place), [7] * 256) == (0, [shifted]))
 
 
 def rounding():
     every = range(8192)
-    r, [e] = saber.rounded(every), saber.error([every])
+    r, [e] = saber.round(every), saber.error([every])
     check("all rounded values lie below 1024", set(r) == set(range(1024)))
     check("all errors lie in -3 .. 4", set(e) == set(range(-3, 5)))
     check("an error is 8 times the rounded less the exact", all((8 * r[x] - x - e[x]) % 8192 == 0 for x in every))
 
 
 def sampling():
-    for number in NUMBERS:
-        set = saber.parameters(number)
+    for number in saber.NUMBERS:
+        set = saber.NUMBERS[number]
         seed = draw(f"selftest sampling {number}", 32)
         signed = counted_secret(seed, set.l, set.mu)
         residues = [x % 8192 for x in signed]
-        check(f"set {number}: secret", saber.gen_secret(number, seed, [7] * 256 * set.l) == (0, [residues]))
+        check(f"set {number}: secret", run("gen_secret", number, seed, [7] * 256 * set.l) == (0, [residues]))
         check(f"set {number}: signed secret", saber.flat(saber.secret_of(set, seed)) == signed)
         stream = bits(hashlib.shake_128(seed).digest(416 * set.l**2))
         numbers = [value(stream[i : i + 13]) for i in range(0, len(stream), 13)]
-        check(f"set {number}: matrix", saber.gen_matrix(number, seed, [7] * 256 * set.l**2) == (0, [numbers]))
+        check(f"set {number}: matrix", run("gen_matrix", number, seed, [7] * 256 * set.l**2) == (0, [numbers]))
 
 
 def margin():
@@ -204,89 +200,93 @@ def small_noise():
 
 def in_place(number):
     """The parts of keys and ciphertexts, read from their places, fit each other by the plain definitions."""
-    set = saber.parameters(number)
+    set = saber.NUMBERS[number]
     l = set.l
     seeds, public_key, secret_key = keys(number, "in place")
     check(f"set {number}: stored seed", public_key[320 * l :] == hashlib.shake_128(seeds[0]).digest(32))
     check(f"set {number}: public key in secret key", secret_key[416 * l : 416 * l + len(public_key)] == public_key)
-    check(f"set {number}: lookup", saber.public_key_of(number, secret_key) == (None, [public_key]))
+    check(f"set {number}: lookup", run("public_key_of", number, secret_key) == (None, [public_key]))
     check(f"set {number}: hash and z", secret_key[-64:] == hashlib.sha3_256(public_key).digest() + seeds[2])
 
-    _, [entries] = saber.gen_matrix(number, public_key[-32:], [7] * 256 * l * l)
+    _, [entries] = run("gen_matrix", number, public_key[-32:], [7] * 256 * l * l)
     A = [[entries[256 * (l * i + j) :][:256] for j in range(l)] for i in range(l)]
-    _, [s] = saber.gen_secret(number, seeds[1], [7] * 256 * l)
+    _, [s] = run("gen_secret", number, seeds[1], [7] * 256 * l)
     s = [s[256 * i :][:256] for i in range(l)]
-    b = [saber.unpack(10, public_key[320 * i :][:320], [7] * 256)[1][0] for i in range(l)]
-    check(f"set {number}: s", [saber.unpack(13, secret_key[416 * i :][:416], [7] * 256)[1][0] for i in range(l)] == s)
+    b = [run("unpack", 10, public_key[320 * i :][:320], [7] * 256)[1][0] for i in range(l)]
+    check(f"set {number}: s", [run("unpack", 13, secret_key[416 * i :][:416], [7] * 256)[1][0] for i in range(l)] == s)
     for i in range(l):
         exact = plain_inner([A[j][i] for j in range(l)], s)
         check(f"set {number}: b {i}", all((8 * y - x + 3) % 8192 < 8 for x, y in zip(exact, b[i])))
 
     message, seed = draw(f"selftest message {number}", 32), draw(f"selftest encryption {number}", 32)
-    _, [ciphertext] = saber.encrypt(number, public_key, message, seed, bytes(set.ciphertext))
-    _, [s1] = saber.gen_secret(number, seed, [7] * 256 * l)
+    _, [ciphertext] = run("encrypt", number, public_key, message, seed, bytes(set.ciphertext))
+    _, [s1] = run("gen_secret", number, seed, [7] * 256 * l)
     s1 = [s1[256 * i :][:256] for i in range(l)]
-    b1 = [saber.unpack(10, ciphertext[320 * i :][:320], [7] * 256)[1][0] for i in range(l)]
+    b1 = [run("unpack", 10, ciphertext[320 * i :][:320], [7] * 256)[1][0] for i in range(l)]
     for i in range(l):
         exact = plain_inner(A[i], s1)
         check(f"set {number}: b' {i}", all((8 * y - x + 3) % 8192 < 8 for x, y in zip(exact, b1[i])))
     w = [(x + 512 * bit) % 1024 for x, bit in zip(plain_inner(b, s1), bits(message))]
-    _, [data] = saber.unpack(set.data_width, ciphertext[320 * l :], [7] * 256)
+    _, [data] = run("unpack", set.data_width, ciphertext[320 * l :], [7] * 256)
     check(f"set {number}: data", data == [x // set.g for x in w])
     v = [x % 1024 for x in plain_inner(b1, s)]
-    _, [recovered] = saber.recover(number, v, data, [7] * 256)
+    _, [recovered] = run("recover", number, v, data, [7] * 256)
     check(f"set {number}: recovered", recovered == bits(message))
 
 
 def demand_3(number, label):
     """Round trips, and the noise against what the difference of v and v' shows of it."""
-    set = saber.parameters(number)
+    set = saber.NUMBERS[number]
     seeds, public_key, secret_key = keys(number, label)
     seed, ciphertext, shared_secret = capsule(number, public_key, label)
-    N = saber.noise(number, *seeds, seed)
+    N = saber.noise(set, *seeds, seed)
     check(f"set {number}: noise within its bounds", len(N) == 256 and all(abs(x) <= 8 * set.margin for x in N))
 
     m = hashlib.sha3_256(seed).digest()
     plain_secret = secret_key[: 416 * set.l]
-    check(f"set {number}: decryption", saber.decrypt(number, plain_secret, ciphertext, bytes(32)) == (0, [m]))
-    check(f"set {number}: unsealing", saber.decaps(number, secret_key, ciphertext, bytes(32)) == (0, [shared_secret]))
+    check(f"set {number}: decryption", run("decrypt", number, plain_secret, ciphertext, bytes(32)) == (0, [m]))
+    check(f"set {number}: unsealing", run("decaps", number, secret_key, ciphertext, bytes(32)) == (0, [shared_secret]))
 
     kr = hashlib.sha3_512(m + hashlib.sha3_256(public_key).digest()).digest()
-    again = saber.encrypt(number, public_key, m, kr[32:], bytes(set.ciphertext))
+    again = run("encrypt", number, public_key, m, kr[32:], bytes(set.ciphertext))
     check(f"set {number}: sealing encrypts m with r", again == (0, [ciphertext]))
     hashed = hashlib.sha3_256(kr[:32] + hashlib.sha3_256(ciphertext).digest()).digest()
     check(f"set {number}: shared secret", shared_secret == hashed)
 
     def read(string, width):
         size = 32 * width
-        return [saber.unpack(width, string[i : i + size], [7] * 256)[1][0] for i in range(0, len(string), size)]
+        return [run("unpack", width, string[i : i + size], [7] * 256)[1][0] for i in range(0, len(string), size)]
 
-    s1 = read(saber.lay(saber.gen_secret(number, kr[32:], [7] * 256 * set.l)[1][0], 13), 13)
+    s1 = read(saber.pack(13, run("gen_secret", number, kr[32:], [7] * 256 * set.l)[1][0]), 13)
     v = plain_inner(read(ciphertext[: 320 * set.l], 10), read(plain_secret, 13))
     v1 = plain_inner(read(public_key[: 320 * set.l], 10), s1)
-    check(f"set {number}: N is 8 (v - v') modulo 8192", all((8 * (x - y) - n) % 8192 == 0 for x, y, n in zip(v, v1, N)))
+    multiples = [8 * (x - y) - n for x, y, n in zip(v, v1, N)]
+    check(f"set {number}: N is 8 (v - v') modulo 8192", not any(saber.modulo(multiples, 8192)))
 
 
 def damaged(number):
     """A damaged ciphertext gives SHA3-256 of k and z, with k from the message that it decrypts to."""
-    set = saber.parameters(number)
+    set = saber.NUMBERS[number]
     seeds, public_key, secret_key = keys(number, "damaged")
     _, ciphertext, shared_secret = capsule(number, public_key, "damaged")
     for place in (0, 319, 320 * set.l - 1, 320 * set.l, set.ciphertext - 1):
-        other = bytes(byte ^ (i == place) << place % 8 for i, byte in enumerate(ciphertext))
-        _, [m] = saber.decrypt(number, secret_key[: 416 * set.l], other, bytes(32))
+        other = flipped(ciphertext, place)
+        _, [m] = run("decrypt", number, secret_key[: 416 * set.l], other, bytes(32))
         k = hashlib.sha3_512(m + secret_key[-64:-32]).digest()[:32]
         rejected = hashlib.sha3_256(k + seeds[2]).digest()
-        answer = saber.decaps(number, secret_key, other, bytes(32))
+        answer = run("decaps", number, secret_key, other, bytes(32))
         check(f"set {number}: byte {place} damaged", answer == (0, [rejected]))
         check(f"set {number}: rejected secret differs", rejected != shared_secret)
 
 
 def refusals():
-    """Each refusal alone and each two together: the earlier is the answer, and no output changes."""
-    set = saber.SETS[1]
+    """Each refusal alone and each two together: the earlier is the answer, and no output changes.
+
+    The faults are stated here a second time, so that a slip in the table of calls shows.
+    """
+    light = saber.SETS[1]
     seed, full = bytes(32), [0] * 256
-    key, ciphertext, secret_key = bytes(set.public_key), bytes(set.ciphertext), bytes(set.secret_key)
+    key, ciphertext, secret_key = bytes(light.public_key), bytes(light.ciphertext), bytes(light.secret_key)
     over = monomial(255, 1024)
     # call: its sound arguments, then each fault as (place, value, refusal)
     tests = {
@@ -351,18 +351,36 @@ def refusals():
             (1, bytes(65), 9), (1, seed, 9),
         ),
     }
+    refusing = {name for name, call in CALLS.items() if 9 in call.questions}
+    check("every call that answers with a refusal is tested", tests.keys() == refusing)
     for name, (sound, *faults) in tests.items():
-        check(f"{name}: sound", saber.CALLS[name].run(*sound)[0] == 0)
+        call = CALLS[name]
+        asked = {(place, p.question) for place, p in enumerate(call.parameters) if p.question}
+        asked |= {(place, 8) for place in call.limits(sound)} if 8 in call.questions else set()
+        check(f"{name}: what is asked of each argument", asked == {(place, number) for place, _, number in faults})
+        check(f"{name}: its questions in order", [*call.questions] == sorted({number for _, number in asked}))
+        check(f"{name}: sound", run(name, *sound)[0] == 0)
         for some in [*itertools.combinations(faults, 1), *itertools.combinations(faults, 2)]:
             arguments, expected = list(sound), min(refusal for _, _, refusal in some)
             if len({place for place, _, _ in some}) < len(some):
                 continue
             for place, bad, _ in some:
                 arguments[place] = bad
-            outputs = arguments[len(saber.CALLS[name].inputs) :]
-            check(f"{name}: refused with {expected}", saber.CALLS[name].run(*arguments) == (expected, outputs))
+            outputs = arguments[len(call.inputs) :]
+            check(f"{name}: refused with {expected}", run(name, *arguments) == (expected, outputs))
     for number, size in ((4, 1568), (1, 1567), (1, 1569), (1, 0), (2, 1568), (0, 1568), (3, 2304)):
-        check(f"lookup: {number}, {size} bytes", saber.public_key_of(number, bytes(size)) == (None, [b""]))
+        check(f"lookup: {number}, {size} bytes", run("public_key_of", number, bytes(size)) == (None, [b""]))
+
+
+def limits():
+    """What coefficients have to lie below, in every list of every call; stated here a second time too."""
+    stated = {("round", None): [8192]}
+    stated |= {("pack", width): [2**width] for width in (1, 3, 4, 6, 10, 13)}
+    stated |= {("poly_mul", modulus): [modulus, modulus] for modulus in (1024, 8192)}
+    for number, data in enumerate((16, 8, 16, 64)):
+        stated |= {("recon_data", number): [1024], ("recover", number): [1024, data]}
+    for (name, number), values in stated.items():
+        check(f"{name} {number}: limits", [*CALLS[name].limits([number]).values()] == values)
 
 
 def lines():
@@ -384,9 +402,10 @@ def lines():
 
 
 def main():
-    for part in (cases, hashes, random_bytes, packing, ring, rounding, sampling, margin, small_noise, refusals, lines):
+    parts = (cases, hashes, random_bytes, packing, ring, rounding, sampling, margin, small_noise)
+    for part in (*parts, refusals, limits, lines):
         part()
-    for number in NUMBERS:
+    for number in saber.NUMBERS:
         in_place(number)
         damaged(number)
         for turn in range(8):

@@ -1,20 +1,12 @@
-// agree ROUNDS: random keys, ciphertexts and secrets of every set through the C interface, against the plain implementation (oracle/plain.c).
-// A round makes keys, seals, and unseals the ciphertext, one with a bit turned, one of random bytes, and the ciphertext with a secret key
-// with a bit turned. It stops at the first difference with a line that sabercall can repeat.
+// agree ROUNDS: random keys, ciphertexts and secrets of every set through the C interface, against the plain
+// implementation (oracle/plain.c). A round makes keys, seals, and unseals the ciphertext, one with a bit turned, one
+// of random bytes, and the ciphertext with a secret key with a bit turned. It stops at the first difference with a
+// line that sabercall can repeat.
+#include "sets.h"
 #include <plain.h>
-#include <saber.h>
 #include <stdio.h>
 #include <stdlib.h>
 #include <string.h>
-
-static const struct {
-    size_t public_key, secret_key, ciphertext;
-} sizes[] = {
-    {0, 0, 0},
-    {LIGHTSABER_PUBLIC_KEY_BYTES, LIGHTSABER_SECRET_KEY_BYTES, LIGHTSABER_CIPHERTEXT_BYTES},
-    {SABER_PUBLIC_KEY_BYTES, SABER_SECRET_KEY_BYTES, SABER_CIPHERTEXT_BYTES},
-    {FIRESABER_PUBLIC_KEY_BYTES, FIRESABER_SECRET_KEY_BYTES, FIRESABER_CIPHERTEXT_BYTES},
-};
 
 static uint64_t state = 1;
 
@@ -55,12 +47,13 @@ static void differ(const char *call, int set, const struct part *parts, int coun
     printf("\n");
     exit(1);
 }
-#define DIFFER(call, set, ...) \
-    differ(call, set, (const struct part[]){__VA_ARGS__}, sizeof((const struct part[]){__VA_ARGS__}) / sizeof(struct part))
+#define DIFFER(call, set, ...)                            \
+    differ(call, set, (const struct part[]){__VA_ARGS__}, \
+           sizeof((const struct part[]){__VA_ARGS__}) / sizeof(struct part))
 
 // Unseals with the first secret key and the first ciphertext.
 static void unseal(int set) {
-    size_t sk = sizes[set].secret_key, ct = sizes[set].ciphertext;
+    size_t sk = sets[set].secret_key, ct = sets[set].ciphertext;
     uint8_t answer = saber_decaps(set, secret_key[0], sk, ciphertext[0], ct, opened[0], 32);
     plain_decaps(set, secret_key[0], ciphertext[0], opened[1]);
     if (answer != SABER_OK || memcmp(opened[0], opened[1], 32) != 0)
@@ -68,11 +61,12 @@ static void unseal(int set) {
 }
 
 static void round_of(int set) {
-    size_t pk = sizes[set].public_key, sk = sizes[set].secret_key, ct = sizes[set].ciphertext;
+    size_t pk = sets[set].public_key, sk = sets[set].secret_key, ct = sets[set].ciphertext;
     random_bytes(seeds[0], sizeof seeds);
     uint8_t answer = saber_keygen(set, seeds[0], 32, seeds[1], 32, seeds[2], 32, public_key[0], pk, secret_key[0], sk);
     plain_keygen(set, seeds[0], seeds[1], seeds[2], public_key[1], secret_key[1]);
-    if (answer != SABER_OK || memcmp(public_key[0], public_key[1], pk) != 0 || memcmp(secret_key[0], secret_key[1], sk) != 0)
+    if (answer != SABER_OK || memcmp(public_key[0], public_key[1], pk) != 0 ||
+        memcmp(secret_key[0], secret_key[1], sk) != 0)
         DIFFER("keygen", set, {seeds[0], 32}, {seeds[1], 32}, {seeds[2], 32}, {blank, pk}, {blank, sk});
 
     answer = saber_encaps(set, public_key[0], pk, seeds[3], 32, ciphertext[0], ct, sent[0], 32);
@@ -101,6 +95,7 @@ int main(int count, char **words) {
     for (int set = 1; set <= 3; set++)
         for (long i = 0; i < rounds; i++)
             round_of(set);
-    printf("plain implementation: %ld calls agree, %ld each of keygen and encaps and %ld of decaps\n", 18 * rounds, 3 * rounds, 12 * rounds);
+    printf("plain implementation: %ld calls agree, %ld each of keygen and encaps and %ld of decaps\n", 18 * rounds,
+           3 * rounds, 12 * rounds);
     return 0;
 }

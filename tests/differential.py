@@ -7,8 +7,8 @@ these at once. Guard bytes stand around every buffer. The first difference ends 
 for `sabercall`. The seed that is printed repeats a run.
 """
 
-import argparse
 import ctypes
+import itertools
 import random
 import struct
 import subprocess
@@ -16,94 +16,28 @@ import sys
 import tempfile
 from collections import Counter
 from pathlib import Path
-from typing import NamedTuple
 
-ROOT = Path(__file__).resolve().parent.parent
+from drawing import ROOT, coefficients, options, sound_arguments
+
 sys.path.insert(0, str(ROOT / "oracle"))
 
 import notation
 import saber
+from calls import CALLS
 
-# What each argument of a call is, outputs last.
-ROLES = {
-    "keygen": "set seed seed seed public_key secret_key",
-    "encaps": "set public_key seed ciphertext seed",
-    "decaps": "set secret_key ciphertext seed",
-    "encrypt": "set public_key seed seed ciphertext",
-    "decrypt": "set plain_secret ciphertext seed",
-    "gen_matrix": "set seed matrix",
-    "gen_secret": "set seed secret",
-    "poly_mul": "modulus below_modulus below_modulus below_modulus",
-    "round": "below_q below_q",
-    "recon_data": "set below_p data",
-    "recover": "set below_p data data",
-    "pack": "width below_width packed",
-    "unpack": "width packed below_width",
-    "shake128": "any any",
-    "sha3_256": "any seed",
-    "sha3_512": "any digest",
-    "public_key_of": "set secret_key",
-}
-SOUND = {"set": (0, 1, 2, 3), "width": saber.WIDTHS, "modulus": saber.MODULI}
 EDGES = (0, 1, 2, 3, 4, 5, 7, 12, 14, 16, 32, 255, 256, 1000, 1023, 1025, 8191, 8193, 65536, 1 << 31, (1 << 32) - 1)
-RATES = (168, 136, 72)
 WAYS = ("sound", "damaged", "any content", "odd lengths", "odd number", "mixed")
 
 
 # Arguments
 
 
-class Keys(NamedTuple):
-    """Keys of a set, with a ciphertext sealed to them."""
-
-    public_key: bytes
-    secret_key: bytes
-    plain_secret: bytes
-    ciphertext: bytes
-
-
 def keys_of(draw, set):
-    public_key, secret_key = saber.key_pair(set, *(draw.randbytes(32) for _ in range(3)))
-    ciphertext, _ = saber.sealed(set, public_key, draw.randbytes(32))
-    return Keys(public_key, secret_key, secret_key[: set.plain_secret], ciphertext)
-
-
-def coefficients(draw, limit, length=saber.N):
-    return [draw.randrange(limit) for _ in range(length)]
-
-
-def any_length(draw):
-    """A length for a hash: often a byte under, at or over a whole number of blocks."""
-    if draw.random() < 0.5:
-        return draw.randrange(1000)
-    return draw.choice(RATES) * draw.randrange(1, 5) + draw.randrange(-1, 2)
-
-
-def sound_arguments(draw, keys, roles):
-    """Arguments that no question refuses."""
-    number = draw.choice(SOUND[roles[0]]) if roles[0] in SOUND else None
-    set = saber.parameters(number) if roles[0] == "set" else None
-    pair = draw.choice(keys[set]) if set else None
-    make = {
-        "seed": lambda: draw.randbytes(32),
-        "digest": lambda: draw.randbytes(64),
-        "any": lambda: draw.randbytes(any_length(draw)),
-        "packed": lambda: draw.randbytes(32 * number),
-        "matrix": lambda: coefficients(draw, saber.Q, saber.N * set.l**2),
-        "secret": lambda: coefficients(draw, saber.Q, saber.N * set.l),
-        "data": lambda: coefficients(draw, saber.P // set.g),
-        "below_p": lambda: coefficients(draw, saber.P),
-        "below_q": lambda: coefficients(draw, saber.Q),
-        "below_modulus": lambda: coefficients(draw, number),
-        "below_width": lambda: coefficients(draw, 1 << number),
-    }
-
-    def value(role):
-        if role in SOUND:
-            return number
-        return getattr(pair, role) if role in Keys._fields else make[role]()
-
-    return [value(role) for role in roles]
+    """Keys of a set by their names, with a ciphertext sealed to them."""
+    public_key, secret_key = saber.keygen(set, *(draw.randbytes(32) for _ in range(3)))
+    ciphertext, _ = saber.encaps(set, public_key, draw.randbytes(32))
+    plain_secret = secret_key[: set.plain_secret]
+    return dict(public_key=public_key, secret_key=secret_key, plain_secret=plain_secret, ciphertext=ciphertext)
 
 
 def any_content(draw, value):
@@ -196,16 +130,14 @@ class Library:
             ["cc", "-shared", "-o", shared, "-Wl,--whole-archive", str(archive), "-Wl,--no-whole-archive"], check=True
         )
         self.functions = ctypes.CDLL(shared)
-        for name in saber.CALLS:
-            if name != "public_key_of":
-                self.functions["saber_" + name].restype = ctypes.c_uint8
-        for name in ("saber_public_key_offset", "saber_public_key_length"):
-            self.functions[name].restype = ctypes.c_size_t
+        for call in CALLS.values():
+            for export in call.exports:
+                self.functions[export].restype = ctypes.c_uint8 if call.outputs else ctypes.c_size_t
 
-    def run(self, draw, name, arguments):
+    def run(self, draw, call, arguments):
         """The answer and the outputs after the call."""
-        if name == "public_key_of":
-            return self.look_up(*arguments)
+        if not call.outputs:
+            return self.look_up(call, *arguments)
         passed, buffers = [], []
         for value in arguments:
             if isinstance(value, int):
@@ -213,16 +145,15 @@ class Library:
             else:
                 buffers.append(Buffer(draw, value))
                 passed.extend(buffers[-1].slice())
-        answer = self.functions["saber_" + name](*passed)
-        lent = len(saber.CALLS[name].outputs)
+        answer = self.functions[call.exports[0]](*passed)
+        lent = len(call.outputs)
         for buffer in buffers[:-lent]:
             buffer.check_unchanged()
         return answer, [buffer.output() for buffer in buffers[-lent:]]
 
-    def look_up(self, set_number, secret_key):
+    def look_up(self, call, set_number, secret_key):
         asked = ctypes.c_uint32(set_number), ctypes.c_size_t(len(secret_key))
-        offset = self.functions.saber_public_key_offset(*asked)
-        length = self.functions.saber_public_key_length(*asked)
+        offset, length = (self.functions[export](*asked) for export in call.exports)
         if length == 0 and offset != 0:
             raise Breach("an empty part that does not start at 0")
         return None, [secret_key[offset : offset + length]]
@@ -233,36 +164,29 @@ class Library:
 
 def table(calls, sets, answers):
     """How often each call was made, with which set and with which answer; the lookup answers with no number."""
-    columns = ["calls", "set 0", "set 1", "set 2", "set 3", *(f"-> {n}" for n in range(10))]
+    columns = ["calls", *(f"set {n}" for n in saber.NUMBERS), *(f"-> {n}" for n in range(10))]
     lines = [f"{'call':14}" + "".join(f"{column:>7}" for column in columns)]
-    for name in ROLES:
-        row = [calls[name], *(sets[name, n] for n in range(4)), *(answers[name, n] for n in range(10))]
+    for name in CALLS:
+        row = [calls[name], *(sets[name, n] for n in saber.NUMBERS), *(answers[name, n] for n in range(10))]
         lines.append(f"{name:14}" + "".join(f"{count or '':>7}" for count in row))
     return "\n".join(lines)
 
 
 def main():
-    parser = argparse.ArgumentParser()
-    parser.add_argument("--seed", type=int, default=random.SystemRandom().getrandbits(32))
-    parser.add_argument("--count", type=int, default=10000)
-    parser.add_argument("--archive", type=Path, default=ROOT / "target" / "staticlib" / "libsaber.a")
-    options = parser.parse_args()
-    print(f"differential: seed {options.seed}, {options.count} calls", flush=True)
-
-    draw = random.Random(options.seed)
+    given = options("differential", 10000, "calls", archive="target/staticlib/libsaber.a")
+    draw = random.Random(given.seed)
     keys = {set: [keys_of(draw, set) for _ in range(8)] for set in saber.SETS.values()}
     calls, sets, answers, ways = Counter(), Counter(), Counter(), Counter()
-    names = list(ROLES)
     with tempfile.TemporaryDirectory() as folder:
-        library = Library(options.archive, folder)
-        for i in range(options.count):
-            name = names[i % len(names)]
-            roles, call = ROLES[name].split(), saber.CALLS[name]
-            way = draw.choice([way for way in WAYS if way != "odd number" or "number" in call.inputs])
-            arguments = spoilt(draw, way, sound_arguments(draw, keys, roles), len(call.inputs))
+        library = Library(given.archive, folder)
+        for i, (name, call) in zip(range(given.count), itertools.cycle(CALLS.items())):
+            numbered = call.inputs[0].role.kind == "number"
+            way = draw.choice([way for way in WAYS if way != "odd number" or numbered])
+            sound = sound_arguments(draw, call, made=lambda set: draw.choice(keys.get(set, [{}])))
+            arguments = spoilt(draw, way, sound, len(call.inputs))
             expected = call.run(*arguments)
             try:
-                found = library.run(draw, name, arguments)
+                found = library.run(draw, call, arguments)
             except Breach as breach:
                 found = str(breach)
             if found != expected:
@@ -274,11 +198,11 @@ def main():
             calls[name] += 1
             ways[way] += 1
             answers[name, expected[0]] += 1
-            if roles[0] == "set":
+            if call.inputs[0].name == "set":
                 sets[name, arguments[0]] += 1
     print(table(calls, sets, answers))
     print("arguments: " + ", ".join(f"{way} {ways[way]}" for way in WAYS))
-    print(f"{options.count} calls, no difference")
+    print(f"{given.count} calls, no difference")
     return 0
 
 

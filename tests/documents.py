@@ -2,9 +2,9 @@
 
     python3 tests/documents.py
 
-A definition or law is cited as `crate/File.name`, a proof as `crate/proofs/function`, a function as `crate::function`,
-a wrong program by its crate and its name in backquotes, and a file by its path. Landing notes are of their time and
-are not read. It exits with 1 where a citation leads nowhere.
+A definition is cited as `crate/File.name`, a law as `crate/Laws/File.name`, a proof as `crate/proofs/function`, a
+function as `crate::function`, a wrong program by its crate and its name in backquotes, and a file by its path. Landing
+notes are of their time and are not read. It exits with 1 where a citation leads nowhere.
 """
 
 import re
@@ -14,7 +14,7 @@ from pathlib import Path
 ROOT = Path(__file__).resolve().parent.parent
 CRATES = {path.name: path for path in (ROOT / "crates").iterdir()}
 ANY = "|".join(CRATES)
-SPECS = re.compile(rf"`({ANY})/([A-Z]\w*)\.([^`\s]+)`")
+SPECS = re.compile(rf"`({ANY})/((?:Laws/)?[A-Z]\w*)\.([^`\s]+)`")
 PROOFS = re.compile(rf"`({ANY})/proofs/(\w+)`")
 FUNCTIONS = re.compile(rf"`({ANY})::(\w+)`")
 WRONG = re.compile(rf"\b({ANY}) (`\w+`(?:, `\w+`)*)")

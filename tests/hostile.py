@@ -7,19 +7,18 @@ that comes in pieces, and input that is empty, closed or cannot be read. COUNT i
 random kind are tried. The first difference ends the run with 1.
 """
 
-import argparse
 import os
 import random
 import subprocess
 import sys
 from collections import Counter
-from pathlib import Path
 
-ROOT = Path(__file__).resolve().parent.parent
+from drawing import ROOT, options, sound_arguments
+
 sys.path.insert(0, str(ROOT / "oracle"))
 
 import notation
-import saber
+from calls import CALLS
 
 LIMIT = notation.LONGEST
 NEAR = b"0123456789abcdefABCDEFg- #\t\r\0\xff"
@@ -31,18 +30,11 @@ SECONDS = 60
 
 
 def sound_requests(draw):
-    """Requests with arguments of every kind, whose answers are quick to reckon."""
-    set = saber.SETS[1]
+    """A request to each call, with the least set, so that what a run answers fits a pipe."""
+    numbers = {"set": [1]}
     return [
-        notation.write_request("sha3_256", draw.randbytes(draw.randrange(300)), bytes(32)),
-        notation.write_request("shake128", draw.randbytes(20), bytes(draw.randrange(300))),
-        notation.write_request("pack", 10, [draw.randrange(1024) for _ in range(256)], bytes(320)),
-        notation.write_request("unpack", 3, draw.randbytes(96), [0] * 256),
-        notation.write_request("round", [draw.randrange(8192) for _ in range(256)], [0] * 256),
-        notation.write_request("gen_secret", 1, draw.randbytes(32), [0] * 512),
-        notation.write_request("recover", 1, *([draw.randrange(8) for _ in range(256)] for _ in range(2)), [0] * 256),
-        notation.write_request("decrypt", 1, *map(draw.randbytes, (set.plain_secret, set.ciphertext)), bytes(32)),
-        notation.write_request("public_key_of", 1, draw.randbytes(set.secret_key)),
+        notation.write_request(name, *sound_arguments(draw, call, numbers.get(call.inputs[0].name)))
+        for name, call in CALLS.items()
     ]
 
 
@@ -57,7 +49,7 @@ def any_words(draw):
         return draw.choice(WORDS) if draw.random() < 0.7 else bytes(draw.choices(NEAR, k=draw.randrange(12)))
 
     def line():
-        return b" ".join([draw.choice(list(saber.CALLS)).encode(), *(word() for _ in range(draw.randrange(8)))])
+        return b" ".join([draw.choice(list(CALLS)).encode(), *(word() for _ in range(draw.randrange(8)))])
 
     return b"\n".join(line() for _ in range(draw.randrange(1, 20))) + b"\n" * draw.randrange(3)
 
@@ -172,22 +164,16 @@ class Trial:
 
 
 def main():
-    parser = argparse.ArgumentParser()
-    parser.add_argument("--seed", type=int, default=random.SystemRandom().getrandbits(32))
-    parser.add_argument("--count", type=int, default=200)
-    parser.add_argument("--program", type=Path, default=ROOT / "target" / "bin" / "sabercall")
-    options = parser.parse_args()
-    print(f"hostile: seed {options.seed}, {options.count} inputs of each random kind", flush=True)
-
-    draw = random.Random(options.seed)
-    trial = Trial(options.program)
+    given = options("hostile", 200, "inputs of each random kind", program="target/bin/sabercall")
+    draw = random.Random(given.seed)
+    trial = Trial(given.program)
     try:
         trial.unreadable()
-        for given in ends():
-            trial.whole("ends", given)
-        for given in long_lines():
-            trial.whole("long lines", given)
-        for _ in range(options.count):
+        for text in ends():
+            trial.whole("ends", text)
+        for text in long_lines():
+            trial.whole("long lines", text)
+        for _ in range(given.count):
             trial.whole("any bytes", any_bytes(draw))
             trial.whole("any words", any_words(draw))
             trial.whole("damaged requests", damaged_requests(draw))

@@ -2,10 +2,10 @@
 
     python3 tests/interface.py
 
-Constants are held to the oracle's table, functions and their parameters to crates/saber/src/lib.rt, and those to the
-oracle's calls. Nothing may lack and nothing may be there besides. Then each text is changed in one number, type or
-`const`, in the order of two parameters or by a declaration, and every change has to be found. It exits with 1 on a
-difference.
+Constants are held to the oracle's sets, functions and their parameters to crates/saber/src/lib.rt, and those to the
+oracle's calls. Nothing may lack and nothing may be there besides. So are the refusals that the header names, and the
+lists of calls in tests/stack.c and tests/secrets.c. Then each text is changed in one number, type or `const`, in the
+order of two parameters or by a declaration, and every change has to be found. It exits with 1 on a difference.
 
 What is compared are dictionaries. A function has an entry for its result and one for each parameter as C passes it, in
 Rust's words: a slice is a pointer, as `*const u8` or `*mut u16`, and a count.
@@ -21,11 +21,13 @@ ROOT = Path(__file__).resolve().parent.parent
 sys.path.append(str(ROOT / "oracle"))
 
 import saber
+from calls import CALLS, run
 
 LIBRARY, HEADER, PACKAGE = "crates/saber/src/lib.rt", "include/saber.h", "bindings/rust/src/lib.rs"
-NAMES = {1: "LIGHTSABER", 2: "SABER", 3: "FIRESABER"}
+STACK, SECRETS = "tests/stack.c", "tests/secrets.c"
+NAMES = {number: name.upper() for number, name in saber.NAMES.items()}
 SIZES = ("public_key", "secret_key", "plain_secret", "ciphertext")  # of a set, in bytes
-KINDS = {"number": "u32", "bytes": "&[u8]", "list": "&[u16]"}  # of the oracle's inputs
+KINDS = {"number": "u32", "bytes": "&[u8]", "list": "&[u16]"}  # the types of inputs
 
 
 class Unreadable(Exception):
@@ -59,7 +61,7 @@ def entries(name, parameters, result):
 
 
 def answer(name, *arguments):
-    return saber.CALLS[name].run(*arguments)[0]
+    return run(name, *arguments)[0]
 
 
 def refusals():
@@ -84,8 +86,8 @@ def lengths():
     ciphertext = bytes(set.ciphertext)
     return {
         "seed": next(n for n in itertools.count() if answer("encaps", 2, b"", bytes(n), b"", b"") != refused),
-        "message": len(saber.decrypted(set, bytes(set.plain_secret), ciphertext)),
-        "shared_secret": len(saber.unsealed(set, bytes(set.secret_key), ciphertext)),
+        "message": len(saber.decrypt(set, bytes(set.plain_secret), ciphertext)),
+        "shared_secret": len(saber.decaps(set, bytes(set.secret_key), ciphertext)),
     }
 
 
@@ -127,18 +129,31 @@ def sentences():
     ]
 
 
+def signature(call):
+    """Names and types, outputs last."""
+    inputs = [(p.name, KINDS[p.role.kind]) for p in call.inputs]
+    return inputs + [(p.name, "&mut " + KINDS[p.role.kind].removeprefix("&")) for p in call.outputs]
+
+
+def in_words(pairs):
+    return [f"{name}: {type}" for name, type in pairs]
+
+
+def lookups():
+    """The calls that hand back a part of an input: functions of the header and the package, not exported as such."""
+    return [call for call in CALLS.values() if not call.outputs]
+
+
 def oracle_entries():
-    """The oracle's calls as exported functions, with types for parameters. The lookup is exported as two numbers that
-    depend on the count of its secret key alone."""
+    """The oracle's calls as exported functions. A lookup is exported as two numbers that depend on counts alone."""
     found = {}
-    for name, call in saber.CALLS.items():
-        inputs = [KINDS[kind] for kind in call.inputs]
-        if name == "public_key_of":
-            for export in ("saber_public_key_offset", "saber_public_key_length"):
-                found |= entries(export, [inputs[0], "usize"], "usize")
+    for call in CALLS.values():
+        if call.outputs:
+            found |= entries(call.exports[0], in_words(signature(call)), "u8")
         else:
-            outputs = ["&mut " + KINDS[kind].removeprefix("&") for kind in call.outputs]
-            found |= entries(f"saber_{name}", inputs + outputs, "u8")
+            counts = [(name, "u32" if type == "u32" else "usize") for name, type in signature(call)]
+            for export in call.exports:
+                found |= entries(export, in_words(counts), "usize")
     return found
 
 
@@ -212,14 +227,17 @@ def header_entries(text):
 
 
 def expected_of_header(functions):
-    """The lookup is an inline function besides, which stores the count of what it returns."""
-    lookup = [*passed([("set", "u32"), ("secret_key", "&[u8]")]), "public_key_count: *mut usize"]
-    return header_constants() | passed_entries(functions) | entries("saber_public_key_of", lookup, "*const u8")
+    """A lookup is an inline function besides, which stores the count of what it returns."""
+    found = header_constants() | passed_entries(functions)
+    for call in lookups():
+        count = f"{call.name.removesuffix('_of')}_count: *mut usize"
+        found |= entries(f"saber_{call.name}", [*passed(signature(call)), count], "*const u8")
+    return found
 
 
 # The package
 
-# What its macro makes of a row, which names a number, inputs and outputs: the declaration, the safe function, the call.
+# What its macro makes of a row, which names a number, inputs and outputs: declaration, safe function and call.
 MACRO = (
     "$(fn $export($($number: u32,)? $($input: *const $from, _: usize,)+ $($output: *mut $to, _: usize),+) -> u8;)+",
     "pub fn $name($($number: u32,)? $($input: &[$from],)+ $($output: &mut [$to]),+) -> Result<(), Refusal> {",
@@ -232,7 +250,6 @@ NUMBER = r"pub const (\w+): usize = (\d+);"
 SET = r"pub const (\w+): Set = Set \{([^}]*)\};"
 REFUSAL = r"pub enum Refusal \{([^}]*)\}"
 ANSWER = r"(\d+) => ([^,]*),"
-APART = {"public_key_of": (["set: u32", "secret_key: &[u8]"], "&[u8]")}  # safe functions that are no rows
 
 
 def package_entries(text):
@@ -257,10 +274,35 @@ def package_entries(text):
 
 def expected_of_package(functions):
     found = {f"macro, line {i}": line for i, line in enumerate(MACRO, 1)}
-    found |= {f"what {name} calls": f"saber_{name}" for name in saber.CALLS if name not in APART}
-    for name, (parameters, result) in APART.items():
-        found |= entries(name, parameters, result)
+    found |= {f"what {call.name} calls": call.exports[0] for call in CALLS.values() if call.outputs}
+    for call in lookups():
+        found |= entries(call.name, in_words(signature(call)), "&[u8]")
     return found | package_constants() | passed_entries(functions)
+
+
+# What goes by the table besides
+
+
+def listed_entries(texts):
+    """The refusals that the header names before each function, and the calls that the tests in C run."""
+    found = {}
+    for numbers, name in re.findall(r"(?:No refusal|Refusals: ([\d, ]+))\.\nuint8_t (\w+)\(", texts[HEADER]):
+        found[f"refusals of {name}"] = items(numbers)
+    for name in re.findall(r"\bDO\((\w+),", texts[STACK]):
+        found[f"{name} in {STACK}"] = "run"
+    for by, name in re.findall(r"\bBY_(LENGTHS|CONTENT), (\w+),", texts[SECRETS]):
+        found.setdefault(f"{name} in {SECRETS}", {by}).add(by)
+    return found
+
+
+def expected_lists():
+    found = {}
+    for name, call in CALLS.items():
+        if call.outputs:
+            found[f"refusals of saber_{name}"] = [str(number) for number in call.questions]
+            found[f"{name} in {STACK}"] = "run"
+            found[f"{name} in {SECRETS}"] = {"CONTENT" if 8 in call.questions else "LENGTHS"}
+    return found
 
 
 # The comparison
@@ -286,7 +328,7 @@ def differences(codes):
     try:
         functions, types = read(LIBRARY, exported, codes), {}
         for name, (parameters, result) in functions.items():
-            types |= entries(name, [type for _, type in parameters], result)
+            types |= entries(name, in_words(parameters), result)
         return [
             *compared(LIBRARY, types, oracle_entries()),
             *compared(HEADER, read(HEADER, header_entries, codes), expected_of_header(functions)),
@@ -329,9 +371,9 @@ def changes(place, text):
 
 
 def main():
-    texts = {place: (ROOT / place).read_text() for place in (LIBRARY, HEADER, PACKAGE)}
-    codes = {place: code(text) for place, text in texts.items()}
-    found = differences(codes)
+    texts = {place: (ROOT / place).read_text() for place in (LIBRARY, HEADER, PACKAGE, STACK, SECRETS)}
+    codes = {place: code(texts[place]) for place in (LIBRARY, HEADER, PACKAGE)}
+    found = differences(codes) + compared("lists", listed_entries(texts), expected_lists())
     for place in (HEADER, PACKAGE):
         found += [f"{place}: lacks `{line}`" for line in sentences() if line not in texts[place]]
     if found:

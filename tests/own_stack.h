@@ -1,4 +1,5 @@
-// Runs a function on a painted stack of its own, to see what it leaves there. For programs that define _XOPEN_SOURCE 700 or _GNU_SOURCE.
+// Runs a function on a painted stack of its own, to see what it leaves there. For programs that define
+// _XOPEN_SOURCE 700 or _GNU_SOURCE.
 #ifndef OWN_STACK_H
 #define OWN_STACK_H
 

@@ -18,6 +18,7 @@ sys.path.append(str(ROOT / "oracle"))
 
 import saber
 from known_answers import FILES, SET_OF, drawn, read
+from samples import with_bit_turned
 
 
 def built(folder):
@@ -28,17 +29,13 @@ def built(folder):
     return ctypes.CDLL(str(shared))
 
 
-def with_bit_turned(string, bit):
-    return (int.from_bytes(string, "little") ^ 1 << bit).to_bytes(len(string), "little")
-
-
 def differences(library, entry, part):
     """The calls of an entry that differ. The part, 0 to 1, is where a bit of the ciphertext is turned."""
     number = SET_OF[len(entry.pk)]
     set = saber.SETS[number]
     *seeds, sealing_seed = drawn(entry.seed)
     damaged = with_bit_turned(entry.ct, round(part * (8 * set.ciphertext - set.data_width)))
-    rejected = saber.unsealed(set, entry.sk, damaged)
+    rejected = saber.decaps(set, entry.sk, damaged)
 
     def differs(function, inputs, expected):
         outputs = [ctypes.create_string_buffer(len(string)) for string in expected]

@@ -1,4 +1,4 @@
-"""The readings of document 01 that decide what a known-answer entry holds, each of which can be reversed in the oracle.
+"""The readings of document 01 that decide what a known-answer entry holds, each of which the oracle can reverse.
 
 A reversal is laid around the oracle's own functions, so that several can be in force at once.
 """
@@ -14,44 +14,44 @@ def seed_first(public_key):
     return public_key[-32:] + public_key[:-32]
 
 
-def key_pair_seed_first(key_pair):
+def keygen_seed_first(keygen):
     def changed(set, matrix_seed, secret_seed, z):
-        public_key, secret_key = key_pair(set, matrix_seed, secret_seed, z)
+        public_key, secret_key = keygen(set, matrix_seed, secret_seed, z)
         public_key = seed_first(public_key)
-        return public_key, secret_key[: set.plain_secret] + public_key + saber.SHA3_256(public_key) + z
+        return public_key, secret_key[: set.plain_secret] + public_key + saber.sha3_256(public_key) + z
 
     return changed
 
 
-def encrypted_seed_first(encrypted):
-    return lambda set, public_key, *rest: encrypted(set, public_key[32:] + public_key[:32], *rest)
+def encrypt_seed_first(encrypt):
+    return lambda set, public_key, *rest: encrypt(set, public_key[32:] + public_key[:32], *rest)
 
 
 def rejected_as_in_section_2(_):
     """z and the hash of the ciphertext make the rejected secret, in place of k and z."""
 
-    def unsealed(set, secret_key, ciphertext):
-        m = saber.decrypted(set, secret_key[: set.plain_secret], ciphertext)
+    def decaps(set, secret_key, ciphertext):
+        m = saber.decrypt(set, secret_key[: set.plain_secret], ciphertext)
         k, r = saber.key_and_seed(m, secret_key[-64:-32])
-        equal = saber.encrypted(set, secret_key[set.plain_secret : -64], m, r) == ciphertext
-        return saber.SHA3_256((k if equal else secret_key[-32:]) + saber.SHA3_256(ciphertext))
+        equal = saber.encrypt(set, secret_key[set.plain_secret : -64], m, r) == ciphertext
+        return saber.sha3_256((k if equal else secret_key[-32:]) + saber.sha3_256(ciphertext))
 
-    return unsealed
+    return decaps
 
 
 # Each reading with the oracle's functions that reverse it. Lengths tell the uses of a hash apart: SHAKE-128 gives 32
 # bytes for the stored seed alone; SHA3-256 is given 32 bytes for m alone and 64 for shared secrets alone.
 READINGS = {
     "the stored matrix seed is SHAKE-128 of the given one": {
-        "SHAKE128": lambda hash: lambda string, length: string if length == 32 else hash(string, length)
+        "shake128": lambda hash: lambda string, length: string if length == 32 else hash(string, length)
     },
-    "rounding adds 4": {"rounded": lambda rounded: lambda numbers: rounded([x - 4 for x in numbers])},
+    "rounding adds 4": {"round": lambda round: lambda numbers: round([x - 4 for x in numbers])},
     "making keys has the transposed matrix": {
         "matrix_of": lambda matrix_of: lambda set, seed: saber.transposed(matrix_of(set, seed))
     },
-    "the public key ends in the matrix seed": {"key_pair": key_pair_seed_first, "encrypted": encrypted_seed_first},
+    "the public key ends in the matrix seed": {"keygen": keygen_seed_first, "encrypt": encrypt_seed_first},
     "m is SHA3-256 of the caller's bytes": {
-        "SHA3_256": lambda hash: lambda string: string if len(string) == 32 else hash(string)
+        "sha3_256": lambda hash: lambda string: string if len(string) == 32 else hash(string)
     },
     "SHA3-512 is of m, then the public key's hash": {
         "key_and_seed": lambda key_and_seed: lambda m, key_hash: key_and_seed(key_hash, m)
@@ -60,9 +60,9 @@ READINGS = {
         "key_and_seed": lambda key_and_seed: lambda m, key_hash: key_and_seed(m, key_hash)[::-1]
     },
     "the shared secret is of k, then the capsule's hash": {
-        "SHA3_256": lambda hash: lambda string: hash(string[32:] + string[:32] if len(string) == 64 else string)
+        "sha3_256": lambda hash: lambda string: hash(string[32:] + string[:32] if len(string) == 64 else string)
     },
-    "the rejected secret is of k and z": {"unsealed": rejected_as_in_section_2},
+    "the rejected secret is of k and z": {"decaps": rejected_as_in_section_2},
 }
 
 

@@ -48,10 +48,12 @@ c99() {
 }
 
 test_of 'the archive' rt staticlib saber
-test_of 'the header as C++17' c++ -std=c++17 -Wall -Wextra -pedantic -Werror -fsyntax-only -Iinclude -x c++ tests/round_trip.c
+test_of 'the header as C++17' \
+    c++ -std=c++17 -Wall -Wextra -pedantic -Werror -fsyntax-only -Iinclude -x c++ tests/round_trip.c
 test_of 'the header as C99' c99 round_trip tests/round_trip.c
 test_of 'a round trip in C' "$work/round_trip"
-test_with valgrind 'a round trip under valgrind' valgrind --quiet --leak-check=full --error-exitcode=1 "$work/round_trip"
+test_with valgrind 'a round trip under valgrind' \
+    valgrind --quiet --leak-check=full --error-exitcode=1 "$work/round_trip"
 test_of 'divisions' python3 tests/divisions.py
 test_with valgrind 'jumps and addresses that depend on secrets' python3 tests/secrets.py
 test_of 'the stack test, built' c99 stack tests/stack.c

@@ -1,22 +1,18 @@
-// secrets SET: every call on content that is marked as undefined, for valgrind's memcheck, which then reports each jump and each address
-// that depends on it. tests/secrets.py runs this and holds the reports against a list.
+// secrets SET: every call on content that is marked as undefined, for valgrind's memcheck, which then reports each
+// jump and each address that depends on it. tests/secrets.py runs this and holds the reports against a list.
 //
-// Seeds, messages, hash inputs and coefficients are marked; keys and ciphertexts are what the calls make of them, the public ones too.
-// Outputs are lent defined, so what is undefined afterwards came from a mark: each of their elements has to be, and no answer may be but
-// where Q8 asks about content. Prints each call with the number of reports that it gave.
+// Seeds, messages, hash inputs and coefficients are marked; keys and ciphertexts are what the calls make of them, the
+// public ones too. Outputs are lent defined, so what is undefined afterwards came from a mark: each of their elements
+// has to be, and no answer may be but where Q8 asks about content. Prints each call with the number of reports that it
+// gave. tests/interface.py holds the calls, and what their answers follow from, against the oracle's table.
 #include "check.h"
-#include <saber.h>
+#include "sets.h"
 #include <stdio.h>
 #include <stdlib.h>
 #include <string.h>
 #include <valgrind/memcheck.h>
 
-#define SIZES(NAME) NAME##_RANK, NAME##_PUBLIC_KEY_BYTES, NAME##_SECRET_KEY_BYTES, NAME##_PLAIN_SECRET_BYTES, NAME##_CIPHERTEXT_BYTES
-
-static const struct {
-    size_t l, public_key, secret_key, plain_secret, ciphertext;
-    uint16_t data; // the bound of reconciliation data
-} sizes[] = {{SIZES(SABER), 16}, {SIZES(LIGHTSABER), 8}, {SIZES(SABER), 16}, {SIZES(FIRESABER), 64}};
+static const uint16_t data_bounds[] = {16, 8, 16, 64}; // of reconciliation data, by set number
 
 // How many of `count` elements hold an undefined bit.
 static size_t undefined(const void *elements, size_t count, size_t size) {
@@ -78,14 +74,17 @@ static void control_address(const uint8_t *byte) {
     control = table[*byte];
 }
 
-static uint8_t seeds[4][SABER_SEED_BYTES], message[SABER_MESSAGE_BYTES], sent[SABER_SHARED_SECRET_BYTES], opened[SABER_SHARED_SECRET_BYTES];
-static uint8_t public_key[FIRESABER_PUBLIC_KEY_BYTES], secret_key[FIRESABER_SECRET_KEY_BYTES], ciphertext[FIRESABER_CIPHERTEXT_BYTES];
+static uint8_t seeds[4][SABER_SEED_BYTES], message[SABER_MESSAGE_BYTES];
+static uint8_t sent[SABER_SHARED_SECRET_BYTES], opened[SABER_SHARED_SECRET_BYTES];
+static uint8_t public_key[FIRESABER_PUBLIC_KEY_BYTES], secret_key[FIRESABER_SECRET_KEY_BYTES];
+static uint8_t ciphertext[FIRESABER_CIPHERTEXT_BYTES];
 
 static void scheme(uint32_t set) {
-    size_t pk = sizes[set].public_key, sk = sizes[set].secret_key, ct = sizes[set].ciphertext;
+    size_t pk = sets[set].public_key, sk = sets[set].secret_key, ct = sets[set].ciphertext;
     for (int i = 0; i < 4; i++)
         mark_bytes(seeds[i], 32);
-    ANSWERS(SABER_OUTPUT_LENGTH, BY_LENGTHS, keygen, set, seeds[0], 32, seeds[1], 32, seeds[2], 32, public_key, pk, secret_key, sk - 1);
+    ANSWERS(SABER_OUTPUT_LENGTH, BY_LENGTHS, keygen, set, seeds[0], 32, seeds[1], 32, seeds[2], 32, public_key, pk,
+            secret_key, sk - 1);
     NONE_SECRET(public_key, pk);
     NONE_SECRET(secret_key, sk);
     WRITES(secret_key, sk, BY_LENGTHS, keygen, set, seeds[0], 32, seeds[1], 32, seeds[2], 32, public_key, pk);
@@ -109,7 +108,7 @@ static void scheme(uint32_t set) {
 
     mark_bytes(message, 32);
     WRITES(ciphertext, ct, BY_LENGTHS, encrypt, set, public_key, pk, message, 32, seeds[3], 32);
-    WRITES(message, 32, BY_LENGTHS, decrypt, set, secret_key, sizes[set].plain_secret, ciphertext, ct);
+    WRITES(message, 32, BY_LENGTHS, decrypt, set, secret_key, sets[set].plain_secret, ciphertext, ct);
 }
 
 static void layers(uint32_t set) {
@@ -117,7 +116,7 @@ static void layers(uint32_t set) {
     static const uint16_t moduli[] = {1024, 8192};
     static uint16_t a[SABER_N], b[SABER_N], list[SABER_N * FIRESABER_RANK * FIRESABER_RANK];
     static uint8_t packed[32 * 13];
-    size_t l = sizes[set].l;
+    size_t l = sets[set].rank;
     WRITES(list, SABER_N * l, BY_LENGTHS, gen_secret, set, seeds[0], 32);
     WRITES(list, SABER_N * l * l, BY_LENGTHS, gen_matrix, set, seeds[0], 32);
     for (int i = 0; i < 2; i++) {
@@ -127,7 +126,7 @@ static void layers(uint32_t set) {
     }
     WRITES(list, SABER_N, BY_CONTENT, round, a, SABER_N);
     mark_list(a, 1024);
-    mark_list(b, sizes[set].data);
+    mark_list(b, data_bounds[set]);
     WRITES(list, SABER_N, BY_CONTENT, recon_data, set, a, SABER_N);
     WRITES(list, SABER_N, BY_CONTENT, recover, set, a, SABER_N, b, SABER_N);
     for (int i = 0; i < 6; i++) {

@@ -5,10 +5,9 @@
 Runs tests/secrets.c, which marks content as secret, under memcheck for each set number. Prints each jump and each
 address that depends on a mark: the function of the archive in which it stands (one that was compiled into another
 counts as that one), its places there in bytes, and the reason why it may stand. It exits with 1 where a place is
-not listed, where a listed one is not found, and where a call of the header is not run.
+not listed, where a listed one is not found, and where a call that writes something is not run.
 """
 
-import re
 import shutil
 import subprocess
 import sys
@@ -18,8 +17,13 @@ from pathlib import Path
 from xml.etree import ElementTree
 
 ROOT = Path(__file__).resolve().parent.parent
+sys.path.append(str(ROOT / "oracle"))
+
+import saber
+from calls import CALLS
+
 KINDS = {"UninitCondition": "jump", "UninitValue": "address"}
-LOOKUPS = {"public_key_offset", "public_key_length"}  # they read no content
+RUN = {name for name, call in CALLS.items() if call.outputs}  # a lookup reads no content
 
 Q8 = "Q8 asks about each coefficient (questions::all_below), so the answer follows from the content"
 CONTROL = "a control, which has to be found"
@@ -62,26 +66,35 @@ def memcheck(program, set_number):
     return places, calls
 
 
-def differences(places, calls, exported):
-    """What a run has otherwise than the list and the header."""
+def differences(places, calls):
+    """What a run has otherwise than the list and the table of calls."""
     for key in sorted(LISTED.keys() | places.keys()):
         count, _ = LISTED.get(key, (0, ""))
         if len(places[key]) != count:
             yield f"{' in '.join(key)}: {count} listed, found at {sorted(places[key])}, reports of {dict(+calls)}"
-    if calls.keys() != exported:
-        yield f"either run or in the header: {sorted(calls.keys() ^ exported)}"
+    if calls.keys() != RUN:
+        yield f"either run or in the table: {sorted(calls.keys() ^ RUN)}"
+
+
+def asked_content():
+    """The functions whose calls ask Q8."""
+    return {export for call in CALLS.values() if 8 in call.questions for export in call.exports}
+
+
+def listed_content():
+    return {function for (_, function), (_, reason) in LISTED.items() if reason is Q8}
 
 
 def main():
     if not shutil.which("valgrind"):
         print("skipped: tests/secrets.py (no valgrind)")
         return 0
-    exported = set(re.findall(r"\w+ saber_(\w+)\([^;{]*;", (ROOT / "include" / "saber.h").read_text())) - LOOKUPS
     with tempfile.TemporaryDirectory() as folder:
         program = Path(folder) / "secrets"
         compile_to(program)
-        runs = [memcheck(program, set_number) for set_number in range(4)]
-    wrong = [f"secrets, set {i}, {line}" for i, run in enumerate(runs) for line in differences(*run, exported)]
+        runs = [memcheck(program, set_number) for set_number in saber.NUMBERS]
+    wrong = [f"secrets, set {i}, {line}" for i, run in enumerate(runs) for line in differences(*run)]
+    wrong += [f"secrets, {name}: Q8 and the list differ" for name in sorted(asked_content() ^ listed_content())]
     if wrong:
         print(*wrong, sep="\n")
         return 1
@@ -89,7 +102,7 @@ def main():
         found = set().union(*(places[key] for places, _ in runs))
         print(f"secrets: {' in '.join(key)} at {sorted(found)}: {reason}")
     reported = sum((calls for _, calls in runs), Counter())
-    print("secrets: no report of", ", ".join(sorted(exported - reported.keys())))
+    print("secrets: no report of", ", ".join(sorted(RUN - reported.keys())))
     return 0
 
 

@@ -1,5 +1,5 @@
-// What the calls leave on the stack. Each runs on a stack of its own that was painted before: it must need less than the 32 KiB that
-// include/saber.h names, and what it leaves must be gone after the function that the header shows.
+// What the calls leave on the stack. Each runs on a stack of its own that was painted before: it must need less than
+// the 32 KiB that include/saber.h names, and what it leaves must be gone after the function that the header shows.
 #define _XOPEN_SOURCE 700
 #include "own_stack.h"
 #include <saber.h>
@@ -13,23 +13,25 @@ static uint8_t seeds[4][32], public_key[FIRESABER_PUBLIC_KEY_BYTES], secret_key[
 static uint8_t ciphertext[FIRESABER_CIPHERTEXT_BYTES], message[32], bytes[416], digest[64];
 static uint16_t matrix[16 * SABER_N], secret[4 * SABER_N], a[SABER_N], b[SABER_N], c[SABER_N];
 
-#define CALLS(DO)                                                                                                             \
-    DO(keygen, SET, seeds[0], 32, seeds[1], 32, seeds[2], 32, public_key, sizeof public_key, secret_key, sizeof secret_key)   \
-    DO(encaps, SET, public_key, sizeof public_key, seeds[3], 32, ciphertext, sizeof ciphertext, message, 32)                  \
-    DO(decaps, SET, secret_key, sizeof secret_key, ciphertext, sizeof ciphertext, message, 32)                                \
-    DO(encrypt, SET, public_key, sizeof public_key, message, 32, seeds[3], 32, ciphertext, sizeof ciphertext)                 \
-    DO(decrypt, SET, secret_key, FIRESABER_PLAIN_SECRET_BYTES, ciphertext, sizeof ciphertext, message, 32)                    \
-    DO(gen_matrix, SET, seeds[0], 32, matrix, 16 * SABER_N)                                                                   \
-    DO(gen_secret, SET, seeds[1], 32, secret, 4 * SABER_N)                                                                    \
-    DO(poly_mul, 8192, matrix, SABER_N, secret, SABER_N, a, SABER_N)                                                          \
-    DO(round, a, SABER_N, b, SABER_N)                                                                                         \
-    DO(recon_data, SET, b, SABER_N, c, SABER_N)                                                                               \
-    DO(recover, SET, b, SABER_N, c, SABER_N, a, SABER_N)                                                                      \
-    DO(pack, 13, secret, SABER_N, bytes, sizeof bytes)                                                                        \
-    DO(unpack, 13, bytes, sizeof bytes, a, SABER_N)                                                                           \
-    DO(shake128, secret_key, sizeof secret_key, bytes, sizeof bytes)                                                          \
-    DO(sha3_256, secret_key, sizeof secret_key, digest, 32)                                                                   \
-    DO(sha3_512, secret_key, sizeof secret_key, digest, 64)
+// Every call that writes something; tests/interface.py holds the list against the oracle's table.
+#define ALL(x) x, sizeof(x) / sizeof *(x)
+#define CALLS(DO)                                                                                  \
+    DO(keygen, SET, ALL(seeds[0]), ALL(seeds[1]), ALL(seeds[2]), ALL(public_key), ALL(secret_key)) \
+    DO(encaps, SET, ALL(public_key), ALL(seeds[3]), ALL(ciphertext), ALL(message))                 \
+    DO(decaps, SET, ALL(secret_key), ALL(ciphertext), ALL(message))                                \
+    DO(encrypt, SET, ALL(public_key), ALL(message), ALL(seeds[3]), ALL(ciphertext))                \
+    DO(decrypt, SET, secret_key, FIRESABER_PLAIN_SECRET_BYTES, ALL(ciphertext), ALL(message))      \
+    DO(gen_matrix, SET, ALL(seeds[0]), ALL(matrix))                                                \
+    DO(gen_secret, SET, ALL(seeds[1]), ALL(secret))                                                \
+    DO(poly_mul, 8192, matrix, SABER_N, secret, SABER_N, ALL(a))                                   \
+    DO(round, ALL(a), ALL(b))                                                                      \
+    DO(recon_data, SET, ALL(b), ALL(c))                                                            \
+    DO(recover, SET, ALL(b), ALL(c), ALL(a))                                                       \
+    DO(pack, 13, secret, SABER_N, ALL(bytes))                                                      \
+    DO(unpack, 13, ALL(bytes), ALL(a))                                                             \
+    DO(shake128, ALL(secret_key), ALL(bytes))                                                      \
+    DO(sha3_256, ALL(secret_key), digest, 32)                                                      \
+    DO(sha3_512, ALL(secret_key), ALL(digest))
 
 #define DEFINE(name, ...) \
     static uint8_t call_##name(void) { return saber_##name(__VA_ARGS__); }

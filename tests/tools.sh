@@ -1,5 +1,6 @@
-# What the gate and the tests need, for .ci/run and tests/run.sh to source at their start. If something required is not there, it says so and
-# ends them. Tests that need one of the other tools are skipped, which is said here and again where they would have run.
+# What the gate and the tests need, for .ci/run and tests/run.sh to source at their start. If something required is not
+# there, it says so and ends them. Tests that need one of the other tools are skipped, which is said here and again
+# where they would have run.
 
 # Is there such a tool?
 has() {

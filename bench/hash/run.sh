@@ -8,7 +8,7 @@ archive=$1
 rounds=${2:-5}
 work=$(mktemp -d)
 trap 'rm -rf "$work"' EXIT
-cc -O2 -o "$work/speed" "$here/speed.c" "$archive"
+cc -O2 -I "$here/../../include" -o "$work/speed" "$here/speed.c" "$archive"
 
 theirs() {
     openssl speed -mr -seconds 1 -bytes "$2" -evp "$1" 2>/dev/null | awk -F: '$1 == "+F" { printf "%.0f\n", $4 }'

@@ -1,13 +1,10 @@
 // speed HASH BYTES SECONDS: hash a buffer of BYTES bytes again and again for SECONDS of processor time,
 // and print the bytes a second. HASH is sha3-256 or shake128, which here gives 16 bytes as `openssl speed` has it.
-#include <stdint.h>
+#include <saber.h>
 #include <stdio.h>
 #include <stdlib.h>
 #include <string.h>
 #include <time.h>
-
-uint8_t saber_sha3_256(const uint8_t *input, size_t n, uint8_t *digest, size_t m);
-uint8_t saber_shake128(const uint8_t *input, size_t n, uint8_t *output, size_t m);
 
 static double processor_time(void) {
     struct timespec t;
@@ -30,7 +27,8 @@ int main(int argc, char **argv) {
     while (spent < limit) {
         for (int i = 0; i < 64; i++) {
             uint8_t r = shake ? saber_shake128(input, n, output, 16) : saber_sha3_256(input, n, output, 32);
-            if (r != 0) return 1;
+            if (r != 0)
+                return 1;
         }
         hashed += 64;
         spent = processor_time() - start;

@@ -1,11 +1,10 @@
-// Cycles for one product of two polynomials modulo 8192: the library's call, its questions included, beside a plain product in C.
-#include <stdint.h>
+// Cycles for one product of two polynomials modulo 8192: the library's call, its questions included, beside a plain
+// product in C.
+#include <saber.h>
 #include <stdio.h>
 #include <stdlib.h>
 #include <string.h>
 #include <x86intrin.h>
-
-uint8_t saber_poly_mul(uint32_t modulus, const uint16_t *a, size_t a_count, const uint16_t *b, size_t b_count, uint16_t *product, size_t product_count);
 
 enum { N = 256, RUNS = 2001 };
 
@@ -50,6 +49,7 @@ int main(void) {
     printf("%-10s %9s %9s\n", "product", "least", "median");
     printf("%-10s %9llu %9llu\n", "saber", (unsigned long long)library[0], (unsigned long long)library[RUNS / 2]);
     printf("%-10s %9llu %9llu\n", "plain C", (unsigned long long)baseline[0], (unsigned long long)baseline[RUNS / 2]);
-    printf("%-10s %9.2f %9.2f\n", "ratio", (double)library[0] / baseline[0], (double)library[RUNS / 2] / baseline[RUNS / 2]);
+    printf("%-10s %9.2f %9.2f\n", "ratio", (double)library[0] / baseline[0],
+           (double)library[RUNS / 2] / baseline[RUNS / 2]);
     return 0;
 }

@@ -5,5 +5,5 @@ set -eu
 here=$(cd "$(dirname "$0")" && pwd)
 work=$(mktemp -d)
 trap 'rm -rf "$work"' EXIT
-cc -O3 -o "$work/cycles" "$here/cycles.c" "$1"
+cc -O3 -I "$here/../../include" -o "$work/cycles" "$here/cycles.c" "$1"
 "$work/cycles"

@@ -1,5 +1,6 @@
-// keygen, encaps and decaps of Bouncy Castle's Saber, for run.py. Its keys are this library's; its ciphertexts are the third round's.
-// A line each: `bouncy SET CALL LEAST MEDIAN` in nanoseconds, and `key SET PUBLIC SECRET` for the seeds 00 00 .., 01 01 .. and 02 02 ..
+// keygen, encaps and decaps of Bouncy Castle's Saber, for run.py. Its keys are this library's; its ciphertexts are the
+// third round's. A line each: `bouncy SET CALL LEAST MEDIAN` in nanoseconds, and `key SET PUBLIC SECRET` for the seeds
+// 00 00 .., 01 01 .. and 02 02 ..
 import java.security.SecureRandom;
 import java.util.Arrays;
 import org.bouncycastle.crypto.AsymmetricCipherKeyPair;
@@ -32,7 +33,9 @@ public class Bouncy {
     }
 
     public static void main(String[] words) {
-        SABERParameters[] sets = {SABERParameters.lightsaberkem256r3, SABERParameters.saberkem256r3, SABERParameters.firesaberkem256r3};
+        SABERParameters[] sets = {
+            SABERParameters.lightsaberkem256r3, SABERParameters.saberkem256r3, SABERParameters.firesaberkem256r3
+        };
         for (int set = 1; set <= 3; set++) {
             Counter random = new Counter();
             SABERKeyPairGenerator maker = new SABERKeyPairGenerator();

@@ -4,7 +4,6 @@
 //   calls one SET CALL  that call of the library once, for callgrind
 //   calls key SET       the key pair of the seeds 00 00 .., 01 01 .. and 02 02 .., in hex
 #define _GNU_SOURCE
-#include <stdint.h>
 #include <stdio.h>
 #include <stdlib.h>
 #include <string.h>
@@ -13,26 +12,18 @@
 
 #include "own_stack.h"
 #include "plain.h"
-#include "saber.h"
+#include "sets.h"
 
 enum { WARM = 50, RUNS = 1001 };
 
 enum { KEYGEN, ENCAPS, DECAPS, CALLS };
 static const char *const names[CALLS] = {"keygen", "encaps", "decaps"};
 
-static const struct {
-    size_t public_key, secret_key, ciphertext;
-} sizes[] = {
-    {0, 0, 0},
-    {LIGHTSABER_PUBLIC_KEY_BYTES, LIGHTSABER_SECRET_KEY_BYTES, LIGHTSABER_CIPHERTEXT_BYTES},
-    {SABER_PUBLIC_KEY_BYTES, SABER_SECRET_KEY_BYTES, SABER_CIPHERTEXT_BYTES},
-    {FIRESABER_PUBLIC_KEY_BYTES, FIRESABER_SECRET_KEY_BYTES, FIRESABER_CIPHERTEXT_BYTES},
-};
-
 // What the calls of one implementation read and write.
 struct place {
     uint8_t seeds[4][32];
-    uint8_t public_key[FIRESABER_PUBLIC_KEY_BYTES], secret_key[FIRESABER_SECRET_KEY_BYTES], ciphertext[FIRESABER_CIPHERTEXT_BYTES];
+    uint8_t public_key[FIRESABER_PUBLIC_KEY_BYTES], secret_key[FIRESABER_SECRET_KEY_BYTES],
+        ciphertext[FIRESABER_CIPHERTEXT_BYTES];
     uint8_t sent[32], opened[32];
 };
 static struct place ours, theirs;
@@ -43,11 +34,12 @@ static void fail(const char *what) {
 }
 
 static void library(int set, int call) {
-    size_t pk = sizes[set].public_key, sk = sizes[set].secret_key, ct = sizes[set].ciphertext;
+    size_t pk = sets[set].public_key, sk = sets[set].secret_key, ct = sets[set].ciphertext;
     struct place *p = &ours;
     uint8_t answer = SABER_OK;
     if (call == KEYGEN)
-        answer = saber_keygen(set, p->seeds[0], 32, p->seeds[1], 32, p->seeds[2], 32, p->public_key, pk, p->secret_key, sk);
+        answer =
+            saber_keygen(set, p->seeds[0], 32, p->seeds[1], 32, p->seeds[2], 32, p->public_key, pk, p->secret_key, sk);
     if (call == ENCAPS)
         answer = saber_encaps(set, p->public_key, pk, p->seeds[3], 32, p->ciphertext, ct, p->sent, 32);
     if (call == DECAPS)
@@ -80,7 +72,8 @@ static int rising(const void *x, const void *y) {
 // A line: implementation, set, call, least and median cycles.
 static void print_cycles(const char *who, int set, int call, uint64_t *cycles) {
     qsort(cycles, RUNS, sizeof *cycles, rising);
-    printf("%s %d %s %llu %llu\n", who, set, names[call], (unsigned long long)cycles[0], (unsigned long long)cycles[RUNS / 2]);
+    printf("%s %d %s %llu %llu\n", who, set, names[call], (unsigned long long)cycles[0],
+           (unsigned long long)cycles[RUNS / 2]);
 }
 
 static void time_calls(void) {
@@ -154,9 +147,9 @@ int main(int count, char **words) {
     } else if (count == 3 && strcmp(words[1], "key") == 0) {
         int set = atoi(words[2]);
         library(set, KEYGEN);
-        print_hex(ours.public_key, sizes[set].public_key);
+        print_hex(ours.public_key, sets[set].public_key);
         printf(" ");
-        print_hex(ours.secret_key, sizes[set].secret_key);
+        print_hex(ours.secret_key, sets[set].secret_key);
         printf("\n");
     } else
         fail("bad usage");

@@ -1,11 +1,12 @@
 #!/usr/bin/env python3
 """run.py ARCHIVE: keygen, encaps and decaps of the three sets, measured in one run.
 
-Beside the library stand Table 3 of the submission, the plain implementation (oracle/plain.c) built for release and, where Debian's
-libbcprov-java is installed, Bouncy Castle. The first table has cycles of the time stamp counter and microseconds, medians of 1,001 calls
-and for the library the least too; the library and the plain implementation take turns on the same input, and every output is compared.
-The second has the library's cycles as a part of the others', and what a run on a busy machine cannot blur: instructions as callgrind
-counts them, the parts of them that Keccak-f and the ring products take, and the bytes of stack."""
+Beside the library stand Table 3 of the submission, the plain implementation (oracle/plain.c) built for release and,
+where Debian's libbcprov-java is installed, Bouncy Castle. The first table has cycles of the time stamp counter and
+microseconds, medians of 1,001 calls and for the library the least too; the library and the plain implementation take
+turns on the same input, and every output is compared. The second has the library's cycles as a part of the others',
+and what a run on a busy machine cannot blur: instructions as callgrind counts them, the parts of them that Keccak-f
+and the ring products take, and the bytes of stack."""
 import pathlib
 import re
 import shutil
@@ -15,11 +16,14 @@ import tempfile
 
 HERE = pathlib.Path(__file__).resolve().parent
 ROOT = HERE.parent.parent
+sys.path.append(str(ROOT / "oracle"))
+
+import saber
+
 JAR = pathlib.Path("/usr/share/java/bcprov.jar")
-SETS = {1: "LightSaber", 2: "Saber", 3: "FireSaber"}
-RANKS = {1: 2, 2: 3, 3: 4}
 CALLS = ("keygen", "encaps", "decaps")
-ROWS = [(number, call) for number in SETS for call in CALLS]
+MATRIX, KECCAK = "ring::matrix_into", "keccak::permute"  # as callgrind names them: matrix times vector, Keccak-f
+ROWS = [(number, call) for number in saber.SETS for call in CALLS]
 
 # Document 000, section 5: cycles of a 2.6 GHz processor.
 TABLE_3 = dict(zip(ROWS, (105881, 155131, 179415, 216597, 267841, 318785, 360539, 400817, 472366)))
@@ -32,8 +36,9 @@ def output(*words):
 
 def build(work, archive):
     program = work / "calls"
-    output("cc", "-std=gnu99", "-O3", "-Wall", "-Wextra", "-Werror", "-I", ROOT / "include", "-I", ROOT / "oracle", "-I", ROOT / "tests",
-           "-o", program, HERE / "calls.c", ROOT / "oracle/plain.c", archive)
+    options = ["-std=gnu99", "-O3", "-Wall", "-Wextra", "-Werror"]
+    options += [f"-I{ROOT / folder}" for folder in ("include", "oracle", "tests")]
+    output("cc", *options, "-o", program, HERE / "calls.c", ROOT / "oracle/plain.c", archive)
     return program
 
 
@@ -77,13 +82,17 @@ def counted(work, program):
 
 
 def shares(counts, number, call):
-    """The parts of Keccak-f and of the products. In keygen the matrix's products stand in a function of their own, which gives the price of
-    one; encaps has l more of them than keygen, and decaps 2 l more."""
-    rank = RANKS[number]
-    one = counts[number, "keygen"]["ring::matrix_into"] / rank**2
+    """The parts of Keccak-f and of the products. In keygen the matrix's products stand in a function of their own,
+    which gives the price of one; encaps has l more of them than keygen, and decaps 2 l more."""
+    rank = saber.SETS[number].l
+    one = counts[number, "keygen"][MATRIX] / rank**2
     products = rank**2 + rank * CALLS.index(call)
     row = counts[number, call]
-    return row["keccak::permute"] / row["TOTALS"], one * products / row["TOTALS"]
+    return row[KECCAK] / row["TOTALS"], one * products / row["TOTALS"]
+
+
+def title(number, call):
+    return f"{saber.NAMES[number]:11}{call:7}"
 
 
 def main():
@@ -95,7 +104,8 @@ def main():
         library, plain, megahertz = timed(program)
         java = bouncy(work, program)
         counts = counted(work, program)
-        stack = {(int(words[1]), words[2]): int(words[3]) for words in map(str.split, output(program, "stack").splitlines())}
+        stacks = map(str.split, output(program, "stack").splitlines())
+        stack = {(int(words[1]), words[2]): int(words[3]) for words in stacks}
 
     print(f"cycles (of {megahertz:.0f} MHz) and microseconds")
     print(f"{'':18}{'library, least':>18}{'median':>18}{'Table 3':>18}{'plain C':>18}{'Bouncy Castle':>18}")
@@ -103,15 +113,17 @@ def main():
         times = [(cycles, cycles / megahertz) for cycles in library[row]]
         times += [(TABLE_3[row], TABLE_3[row] / TABLE_3_MEGAHERTZ), (plain[row][1], plain[row][1] / megahertz)]
         times += [(java[row] * megahertz, java[row])] if java else []
-        print(f"{SETS[row[0]]:11}{row[1]:7}" + "".join(f"{cycles:>11,.0f}{micro:>7.1f}" for cycles, micro in times))
+        print(title(*row) + "".join(f"{cycles:>11,.0f}{micro:>7.1f}" for cycles, micro in times))
     print()
     print("the library: its median cycles as a part of the others', and repeatable figures")
-    print(f"{'':18}{'Table 3':>9}{'(least)':>9}{'plain C':>9}{'Bouncy':>9}{'instructions':>15}{'Keccak-f':>10}{'products':>10}{'stack':>9}")
+    print(f"{'':18}{'Table 3':>9}{'(least)':>9}{'plain C':>9}{'Bouncy':>9}"
+          f"{'instructions':>15}{'Keccak-f':>10}{'products':>10}{'stack':>9}")
     for row in ROWS:
         least, median = library[row]
         keccak, product = shares(counts, *row)
         castle = f"{median / (java[row] * megahertz):.2f}" if java else "-"
-        print(f"{SETS[row[0]]:11}{row[1]:7}{median / TABLE_3[row]:>9.2f}{least / TABLE_3[row]:>9.2f}{median / plain[row][1]:>9.2f}{castle:>9}"
+        print(f"{title(*row)}{median / TABLE_3[row]:>9.2f}{least / TABLE_3[row]:>9.2f}"
+              f"{median / plain[row][1]:>9.2f}{castle:>9}"
               f"{counts[row]['TOTALS']:>15,}{keccak:>10.0%}{product:>10.0%}{stack[row]:>9,}")
 
 
