@@ -88,7 +88,8 @@ unfolding inner
 inner-residues m hm n l a a′ b b′ p q =
     map-from (λ z. modℤ z m) n _
     ∙ from-cong n _ _ (λ k h.
-    mod-of m hm (same-sum l (λ i hi. same-coef n (a i) (a′ i) (b i) (b′ i) (same-at m hm (a i) (a′ i) (p i hi)) (same-at m hm (b i) (b′ i) (q i hi)) k)))
+    mod-of m hm (same-sum l (λ i hi.
+    same-coef n (a i) (a′ i) (b i) (b′ i) (same-at m hm (a i) (a′ i) (p i hi)) (same-at m hm (b i) (b′ i) (q i hi)) k)))
     ∙ sym (map-from (λ z. modℤ z m) n _)
 
 four : (w x y z : ℤ) → (w +ℤ x) +ℤ (y +ℤ z) ≡ (w +ℤ y) +ℤ (x +ℤ z)

@@ -23,12 +23,10 @@ pub dot-more :
     r ≡ (s + t) % 65536 → r ≡ modℤ (dot (i + 1) (nat a) (nat w)) 65536
 unfolding dot
 dot-more i a w p q e =
+    let term : ℕ → ℤ = λ j. at (nat a) j *ℤ at (nat w) j in
     (rw (p, q) at e)
     ∙ sym (ap (λ z. modℤ z 65536) (sum-next i term ∙ ap (λ z. sum i term +ℤ z) (rw (at-nat a i, at-nat w i) refl))
     ∙ sym (mod-add 65536 (omega arith) (sum i term) (pos (getD a i 0 * getD w i 0))))
-  where
-    term : ℕ → ℤ
-    term j = at (nat a) j *ℤ at (nat w) j
 
 -- place j of the doubled table of b
 pub place-low :
@@ -68,10 +66,7 @@ module _ (a b w : List ℕ) (k : ℕ) (la : length a ≡ 256) (ew : w ≡ residu
       d ≡ modℤ (dot (length (take 256 a)) (nat (take 256 a)) (nat (take (511 - k - (255 - k)) (drop (255 - k) w)))) 65536 →
       r ≡ (getD acc k 0 + d) % 65536 → r ≡ modℤ (at (nat acc) k +ℤ coef 256 (nat a) (nat b) k) 65536
   add-coef acc d r p q =
-      q ∙ rw (e, at-nat acc k) (mod-of 65536 (omega arith) (same-add (same-refl (pos (getD acc k 0))) (same-sym (same-residue 65536 (omega arith) z))))
-    where
-      z : ℤ
-      z = coef 256 (nat a) (nat b) k
-
-      e : d ≡ modℤ z 65536
-      e = (rw (width, start, ew, take-all 256 a (omega arith), la) at p) ∙ column-coef 65536 (omega arith) 256 (nat a) (nat b) k hk
+      let m : 0 < 65536 = omega arith in
+      let z = coef 256 (nat a) (nat b) k in
+      let e : d ≡ modℤ z 65536 = (rw (width, start, ew, take-all 256 a (omega arith), la) at p) ∙ column-coef 65536 m 256 (nat a) (nat b) k hk in
+      q ∙ rw (e, at-nat acc k) (mod-of 65536 m (same-add (same-refl (pos (getD acc k 0))) (same-sym (same-residue 65536 m z))))

@@ -37,7 +37,8 @@ pub inner-values :
 unfolding innerMod
 inner-values l a s p =
     reduced 1024 (inner 256 l (λ j. nat (poly a j)) (λ j. poly (nat s) j)) refl
-    (p ∙ ap (residues 65536) (inner-cong 256 l _ _ _ _ (λ j h. let e : 0 + 1 * j ≡ j = omega arith in ap (λ (n : ℕ). nat (poly a n)) e) (λ j h. refl)))
+    (p ∙ ap (residues 65536) (inner-cong 256 l _ _ _ _
+    (λ j h. let e : 0 + 1 * j ≡ j = omega arith in ap (λ (n : ℕ). nat (poly a n)) e) (λ j h. refl)))
 
 -- a matrix by its strides: from a row to the next, and from a column to the next
 cell : (l i j : ℕ) → i < l → j < l → l * i + j < l * l
