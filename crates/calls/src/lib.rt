@@ -29,11 +29,11 @@ pub enum Request {
 // A request, and how many arguments of each kind it takes, in the order in which they stand.
 pub struct Row {
     pub request: Request,
-    pub numbers: u8,
-    pub strings: u8,
-    pub lists: u8,
-    pub byte_outputs: u8,
-    pub list_outputs: u8,
+    pub numbers: usize,
+    pub strings: usize,
+    pub lists: usize,
+    pub byte_outputs: usize,
+    pub list_outputs: usize,
 }
 
 pub enum Found {
@@ -41,21 +41,21 @@ pub enum Found {
     Nothing,
 }
 
-// The row of a request where its name is the one that is asked for, and else what was found before.
+// The row of a call where its name is the one that is asked for, and else what was found before.
 fn entry(
     found: Found,
     asked: &[u8],
     name: &[u8],
-    request: Request,
-    numbers: u8,
-    strings: u8,
-    lists: u8,
-    byte_outputs: u8,
-    list_outputs: u8,
+    call: Call,
+    numbers: usize,
+    strings: usize,
+    lists: usize,
+    byte_outputs: usize,
+    list_outputs: usize,
 ) -> Found {
     if check::same(asked, name) {
         return Found::Row(Row {
-            request,
+            request: Request::Call(call),
             numbers,
             strings,
             lists,
@@ -66,176 +66,40 @@ fn entry(
     found
 }
 
+// The same for the lookup.
+fn lookup(asked: &[u8], name: &[u8], numbers: usize, strings: usize) -> Found {
+    if check::same(asked, name) {
+        return Found::Row(Row {
+            request: Request::PublicKeyOf,
+            numbers,
+            strings,
+            lists: 0,
+            byte_outputs: 0,
+            list_outputs: 0,
+        });
+    }
+    Found::Nothing
+}
+
 // The table: name, numbers, byte strings, lists, byte outputs, list outputs.
 pub fn row_of(name: &[u8]) -> Found {
-    let f = Found::Nothing;
-    let f = entry(
-        f,
-        name,
-        b"keygen",
-        Request::Call(Call::Keygen),
-        1,
-        3,
-        0,
-        2,
-        0,
-    );
-    let f = entry(
-        f,
-        name,
-        b"encaps",
-        Request::Call(Call::Encaps),
-        1,
-        2,
-        0,
-        2,
-        0,
-    );
-    let f = entry(
-        f,
-        name,
-        b"decaps",
-        Request::Call(Call::Decaps),
-        1,
-        2,
-        0,
-        1,
-        0,
-    );
-    let f = entry(
-        f,
-        name,
-        b"encrypt",
-        Request::Call(Call::Encrypt),
-        1,
-        3,
-        0,
-        1,
-        0,
-    );
-    let f = entry(
-        f,
-        name,
-        b"decrypt",
-        Request::Call(Call::Decrypt),
-        1,
-        2,
-        0,
-        1,
-        0,
-    );
-    let f = entry(
-        f,
-        name,
-        b"gen_matrix",
-        Request::Call(Call::GenMatrix),
-        1,
-        1,
-        0,
-        0,
-        1,
-    );
-    let f = entry(
-        f,
-        name,
-        b"gen_secret",
-        Request::Call(Call::GenSecret),
-        1,
-        1,
-        0,
-        0,
-        1,
-    );
-    let f = entry(
-        f,
-        name,
-        b"poly_mul",
-        Request::Call(Call::PolyMul),
-        1,
-        0,
-        2,
-        0,
-        1,
-    );
-    let f = entry(f, name, b"round", Request::Call(Call::Round), 0, 0, 1, 0, 1);
-    let f = entry(
-        f,
-        name,
-        b"recon_data",
-        Request::Call(Call::ReconData),
-        1,
-        0,
-        1,
-        0,
-        1,
-    );
-    let f = entry(
-        f,
-        name,
-        b"recover",
-        Request::Call(Call::Recover),
-        1,
-        0,
-        2,
-        0,
-        1,
-    );
-    let f = entry(f, name, b"pack", Request::Call(Call::Pack), 1, 0, 1, 1, 0);
-    let f = entry(
-        f,
-        name,
-        b"unpack",
-        Request::Call(Call::Unpack),
-        1,
-        1,
-        0,
-        0,
-        1,
-    );
-    let f = entry(
-        f,
-        name,
-        b"shake128",
-        Request::Call(Call::Shake128),
-        0,
-        1,
-        0,
-        1,
-        0,
-    );
-    let f = entry(
-        f,
-        name,
-        b"sha3_256",
-        Request::Call(Call::Sha3256),
-        0,
-        1,
-        0,
-        1,
-        0,
-    );
-    let f = entry(
-        f,
-        name,
-        b"sha3_512",
-        Request::Call(Call::Sha3512),
-        0,
-        1,
-        0,
-        1,
-        0,
-    );
-    entry(
-        f,
-        name,
-        b"public_key_of",
-        Request::PublicKeyOf,
-        1,
-        1,
-        0,
-        0,
-        0,
-    )
+    let f = lookup(name, b"public_key_of", 1, 1);
+    let f = entry(f, name, b"keygen", Call::Keygen, 1, 3, 0, 2, 0);
+    let f = entry(f, name, b"encaps", Call::Encaps, 1, 2, 0, 2, 0);
+    let f = entry(f, name, b"decaps", Call::Decaps, 1, 2, 0, 1, 0);
+    let f = entry(f, name, b"encrypt", Call::Encrypt, 1, 3, 0, 1, 0);
+    let f = entry(f, name, b"decrypt", Call::Decrypt, 1, 2, 0, 1, 0);
+    let f = entry(f, name, b"gen_matrix", Call::GenMatrix, 1, 1, 0, 0, 1);
+    let f = entry(f, name, b"gen_secret", Call::GenSecret, 1, 1, 0, 0, 1);
+    let f = entry(f, name, b"poly_mul", Call::PolyMul, 1, 0, 2, 0, 1);
+    let f = entry(f, name, b"round", Call::Round, 0, 0, 1, 0, 1);
+    let f = entry(f, name, b"recon_data", Call::ReconData, 1, 0, 1, 0, 1);
+    let f = entry(f, name, b"recover", Call::Recover, 1, 0, 2, 0, 1);
+    let f = entry(f, name, b"pack", Call::Pack, 1, 0, 1, 1, 0);
+    let f = entry(f, name, b"unpack", Call::Unpack, 1, 1, 0, 0, 1);
+    let f = entry(f, name, b"shake128", Call::Shake128, 0, 1, 0, 1, 0);
+    let f = entry(f, name, b"sha3_256", Call::Sha3256, 0, 1, 0, 1, 0);
+    entry(f, name, b"sha3_512", Call::Sha3512, 0, 1, 0, 1, 0)
 }
 
 // Makes a call. An argument that the call does not have is empty.

@@ -1,47 +1,39 @@
 // The notation of requests and their answers: words with one space between; decimal numbers; bytes as hex pairs; numbers of 16 bits as
-// four hex digits; `-` for an empty string or list. The contracts speak of sizes and places alone.
+// four hex digits; `-` for an empty string or list. What has no room in a buffer is left out; the contracts speak of places alone.
 ghost use Prim.Native.Nat.{_≤_, _<_};
 ghost use lib.ListN.{length};
 
-// A line has at most 65,536 bytes. These hold what any word of it spells, and the digits that spell as much.
+// A line has at most 65,536 bytes. These hold what its words spell, and the digits that spell as much.
 pub type Bytes = [u8; 32768];
 
 pub type List = [u16; 16384];
 
 pub type Text = [u8; 65536];
 
-// Why a word cannot be read, if it cannot.
-pub enum Fault {
-    None,
-    WrongCount,
-    BadDigit,
-    OddCount,
-    TooLarge,
-}
+// What is wrong with a line, or nothing.
+pub const SOUND: u8 = 0;
 
-// What reading a word gave: the number, or how many elements it spells; where the next word starts, past the line's end where there is
+pub const WRONG_COUNT: u8 = 1;
+
+pub const BAD_DIGIT: u8 = 2;
+
+pub const ODD_COUNT: u8 = 3;
+
+pub const TOO_LARGE: u8 = 4;
+
+// What reading gave: the number, or how many bytes were read up to here; where the next word starts, past the line's end where there is
 // none; and what is wrong up to there.
 pub struct Step {
     pub value: usize,
     pub next: usize,
-    pub fault: Fault,
+    pub fault: u8,
 }
 
-pub fn gives(value: usize, next: usize, fault: Fault) -> Step {
-    Step { value, next, fault }
-}
-
-fn is_none(fault: Fault) -> bool {
-    match fault {
-        Fault::None => true,
-        _ => false,
-    }
-}
-
-// Whether a word is to be read after a step: one is wanted, and nothing is wrong yet.
-fn is_due(wanted: bool, from: Step) -> bool {
-    let fault = from.fault;
-    wanted & is_none(fault)
+// The smaller of two numbers.
+pub fn least(a: usize, b: usize) -> usize
+    ensures { λ r. ⌜ (r ≤ a) × (r ≤ b) ⌝ }
+{
+    if a < b { a } else { b }
 }
 
 // The place of the first space from `at` on, or the line's end.
@@ -62,37 +54,46 @@ fn digit_value(b: u8) -> u8 {
     }
 }
 
-// The smaller of two numbers.
-pub fn least(a: usize, b: usize) -> usize
-    ensures { λ r. ⌜ (r ≤ a) × (r ≤ b) ⌝ }
-{
-    if a < b { a } else { b }
-}
-
 // A decimal number with one digit more, too large above `most`.
 fn append(number: Step, digit: u8, most: usize) -> Step {
     let value = number.value;
-    let fault = number.fault;
     let d = digit as usize;
     if value <= most / 10 {
         if d <= most - value * 10 {
-            return gives(value * 10 + d, number.next, fault);
+            return Step {
+                value: value * 10 + d,
+                next: number.next,
+                fault: number.fault,
+            };
         }
     }
-    gives(value, number.next, Fault::TooLarge)
+    Step {
+        value,
+        next: number.next,
+        fault: TOO_LARGE,
+    }
 }
 
-// A word as a decimal number up to `most`.
+// A word as a decimal number up to `most`, with the place of the word after it.
 fn decimal_of(word: &[u8], most: usize, next: usize) -> Step {
+    let bad = Step {
+        value: 0,
+        next,
+        fault: BAD_DIGIT,
+    };
     if word.len() == 0 {
-        return gives(0, next, Fault::BadDigit);
+        return bad;
     }
-    let mut number = gives(0, next, Fault::None);
+    let mut number = Step {
+        value: 0,
+        next,
+        fault: SOUND,
+    };
     let mut i = 0;
     while i < word.len() {
         let digit = digit_value(word[i]);
         if digit > 9 {
-            return gives(0, next, Fault::BadDigit);
+            return bad;
         }
         let longer = append(number, digit, most);
         number = longer;
@@ -101,108 +102,107 @@ fn decimal_of(word: &[u8], most: usize, next: usize) -> Step {
     number
 }
 
-// Reads the next word as a number up to `most`, where one is wanted and nothing is wrong yet, as the readers below do.
+// Reads the next word as a number up to `most`, where one is wanted and nothing is wrong yet.
 pub fn read_number(wanted: bool, most: usize, line: &[u8], from: Step) -> Step {
     let at = from.next;
-    if !is_due(wanted, from) {
-        let fault = from.fault;
-        return gives(0, at, fault);
+    if !wanted | (from.fault != SOUND) {
+        return from;
     }
     if at > line.len() {
-        return gives(0, at, Fault::WrongCount);
+        return Step {
+            value: 0,
+            next: at,
+            fault: WRONG_COUNT,
+        };
     }
     let end = word_end(line, at);
     decimal_of(&line[at..end], most, end + 1)
 }
 
-// Reads as many hex digits as have room into bytes, each shifted in from the right, and says whether all are good.
-fn digits_into(word: &[u8], bytes: &mut Bytes) -> bool {
-    let n = least(word.len(), 65536);
+// Reads a word of elements of so many hex digits into bytes from a place on, and says what is wrong with it. Each digit is shifted into
+// its byte from the right.
+fn hex_into(word: &[u8], digits: usize, bytes: &mut Bytes, place: usize) -> u8
+    requires { ⌜ (0 < digits) × (place ≤ 32768) ⌝ }
+{
+    if check::same(word, b"-") {
+        return SOUND;
+    }
+    if word.len() == 0 {
+        return BAD_DIGIT;
+    }
+    if word.len() % digits != 0 {
+        return ODD_COUNT;
+    }
+    let n = least(word.len(), 2 * (32768 - place));
     let mut i = 0;
     while i < n {
         let digit = digit_value(word[i]);
         if digit > 15 {
-            return false;
+            return BAD_DIGIT;
         }
-        bytes[i / 2] = bytes[i / 2] % 16 * 16 + digit;
+        let k = place + i / 2;
+        bytes[k] = bytes[k] % 16 * 16 + digit;
         i += 1;
     }
-    true
+    SOUND
 }
 
-// What is wrong with a word of elements of so many hex digits, which go into bytes.
-fn hex_into(word: &[u8], digits: usize, bytes: &mut Bytes) -> Fault
-    requires { ⌜ 0 < digits ⌝ }
-{
-    if check::same(word, b"-") {
-        return Fault::None;
-    }
-    if word.len() == 0 {
-        return Fault::BadDigit;
-    }
-    if word.len() % digits != 0 {
-        return Fault::OddCount;
-    }
-    if digits_into(word, bytes) {
-        Fault::None
-    } else {
-        Fault::BadDigit
-    }
-}
-
-// Reads the next word as elements of so many hex digits into bytes, and gives how many bytes there are.
-pub fn read_bytes(wanted: bool, digits: usize, line: &[u8], from: Step, bytes: &mut Bytes) -> Step
-    requires { ⌜ 0 < digits ⌝ }
+// Reads the next word as elements of so many hex digits, where one is wanted and nothing is wrong yet. Its bytes go behind those that
+// were read before.
+pub fn read_hex(wanted: bool, digits: usize, line: &[u8], from: Step, bytes: &mut Bytes) -> Step
+    requires { ⌜ (0 < digits) × (from .value ≤ 32768) ⌝ }
+    ensures { λ r. ⌜ r .value ≤ 32768 ⌝ }
 {
     let at = from.next;
-    if !is_due(wanted, from) {
-        let fault = from.fault;
-        return gives(0, at, fault);
+    if !wanted | (from.fault != SOUND) {
+        return from;
     }
     if at > line.len() {
-        return gives(0, at, Fault::WrongCount);
+        return Step {
+            value: from.value,
+            next: at,
+            fault: WRONG_COUNT,
+        };
     }
     let end = word_end(line, at);
-    let fault = hex_into(&line[at..end], digits, bytes);
-    gives((end - at) / 2, end + 1, fault)
+    let fault = hex_into(&line[at..end], digits, bytes, from.value);
+    Step {
+        value: least(from.value + (end - at) / 2, 32768),
+        next: end + 1,
+        fault,
+    }
+}
+
+// What is wrong with a line whose words were read up to here.
+pub fn finish(line: &[u8], last: Step) -> u8 {
+    if (last.fault == SOUND) & (last.next <= line.len()) {
+        return WRONG_COUNT;
+    }
+    last.fault
 }
 
 fn number_of(high: u8, low: u8) -> u16 {
     (high as u16) * 256 + (low as u16)
 }
 
-// As many as have room of the n numbers that bytes hold, high byte first.
-fn list_into(bytes: &Bytes, n: usize, list: &mut List) {
-    let end = least(n, 16384);
+// The numbers that bytes hold, high byte first.
+pub fn list_into(bytes: &[u8], list: &mut List) {
+    let n = least(bytes.len() / 2, 16384);
     let mut i = 0;
-    while i < end {
+    while i < n {
         list[i] = number_of(bytes[2 * i], bytes[2 * i + 1]);
         i += 1;
     }
 }
 
-// Reads the next word as a list, by way of bytes, and gives how many numbers there are.
-pub fn read_list(
-    wanted: bool,
-    line: &[u8],
-    from: Step,
-    bytes: &mut Bytes,
-    list: &mut List,
-) -> Step {
-    let read = read_bytes(wanted, 4, line, from, bytes);
-    let n = read.value / 2;
-    list_into(bytes, n, list);
-    let fault = read.fault;
-    gives(n, read.next, fault)
-}
-
-// What is wrong with a line that was read up to here.
-pub fn finish(line: &[u8], last: Step) -> Fault {
-    let fault = last.fault;
-    if is_none(fault) & (last.next <= line.len()) {
-        return Fault::WrongCount;
+// Bytes as they are.
+pub fn copy_into(bytes: &[u8], copy: &mut Bytes) {
+    let n = least(bytes.len(), 32768);
+    let mut i = 0;
+    while i < n {
+        copy[i] = bytes[i];
+        i += 1;
     }
-    fault
 }
 
 // The hex digit of the last four bits.
@@ -219,7 +219,7 @@ fn pair_into(b: u8, i: usize, text: &mut Text)
     text[2 * i + 1] = hex_digit(b);
 }
 
-// Writes as many bytes as have room as a word, and says how long it is.
+// Writes bytes as a word, and says how long it is.
 pub fn word_into(bytes: &[u8], text: &mut Text) -> usize {
     let n = least(bytes.len(), 32768);
     if n == 0 {
@@ -242,7 +242,7 @@ fn number_into(x: u16, i: usize, bytes: &mut Bytes)
     bytes[2 * i + 1] = (x % 256) as u8;
 }
 
-// Writes as many numbers as have room as bytes, and says how many bytes they are.
+// Writes a list as bytes, and says how many they are.
 pub fn bytes_into(list: &[u16], bytes: &mut Bytes) -> usize {
     let n = least(list.len(), 16384);
     let mut i = 0;

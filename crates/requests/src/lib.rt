@@ -1,21 +1,47 @@
 // Requests: a line is read, the call that it names is made, and its reply is printed.
+ghost use Prim.Native.Nat.{_<_};
 use calls::Call;
 use calls::Found;
 use calls::Request;
 use calls::Row;
 use notation::Bytes;
-use notation::Fault;
 use notation::List;
+use notation::Step;
 use notation::Text;
 
-// The number of a request, the sizes of its other arguments by kind, and what is wrong with the line.
+// The hex words of a request, in the order in which they stand: three byte strings, two lists, two byte outputs and a list output. The
+// bytes of word k end where those of word k + 1 start; those of a word that a call does not take are none.
+type Ends = [usize; 9];
+
+// The number of a request, where its other arguments stand in the bytes, and what is wrong with the line.
 struct Arguments {
     number: u32,
-    strings: [usize; 3],
-    lists: [usize; 2],
-    byte_outputs: [usize; 2],
-    list_output: usize,
-    fault: Fault,
+    ends: Ends,
+    fault: u8,
+}
+
+// Whether a row takes the k-th hex word.
+fn is_taken(row: Row, k: usize) -> bool {
+    if k < 3 {
+        return k < row.strings;
+    }
+    if k < 5 {
+        return k - 3 < row.lists;
+    }
+    if k < 7 {
+        return k - 5 < row.byte_outputs;
+    }
+    k - 7 < row.list_outputs
+}
+
+// How many digits of the k-th hex word spell an element.
+fn digits_of(k: usize) -> usize
+    ensures { λ r. ⌜ 0 < r ⌝ }
+{
+    if (k == 3) | (k == 4) | (k == 7) {
+        return 4;
+    }
+    2
 }
 
 // A number that was read up to 2^32 - 1.
@@ -24,38 +50,62 @@ fn narrow(x: usize) -> u32 {
 }
 
 // Reads the arguments that a row takes, from a place of the line on.
-fn read(
-    row: Row,
-    line: &[u8],
-    at: usize,
-    strings: &mut [Bytes; 3],
-    lists: &mut [List; 2],
+fn read(row: Row, line: &[u8], at: usize, bytes: &mut Bytes) -> Arguments {
+    let start = Step {
+        value: 0,
+        next: at,
+        fault: notation::SOUND,
+    };
+    let number = notation::read_number(row.numbers > 0, 4294967295, line, start);
+    let mut ends = [0; 9];
+    let mut step = Step {
+        value: 0,
+        next: number.next,
+        fault: number.fault,
+    };
+    let mut k = 0;
+    while k < 8 {
+        let next = notation::read_hex(is_taken(row, k), digits_of(k), line, step, bytes);
+        step = next;
+        k += 1;
+        ends[k] = next.value;
+    }
+    Arguments {
+        number: narrow(number.value),
+        ends,
+        fault: notation::finish(line, step),
+    }
+}
+
+// The bytes of the k-th hex word.
+fn part(bytes: &[u8], ends: Ends, k: usize) -> &[u8]
+    requires { ⌜ k < 8 ⌝ }
+{
+    let from = ends[k];
+    let end = ends[k + 1];
+    if from <= end {
+        if end <= bytes.len() {
+            return &bytes[from..end];
+        }
+    }
+    &bytes[0..0]
+}
+
+// Turns the bytes of the lists and of the outputs into the buffers that a call is lent.
+fn fill(
+    ends: Ends,
+    bytes: &[u8],
+    left: &mut List,
+    right: &mut List,
     output: &mut Bytes,
     extra: &mut Bytes,
     result: &mut List,
-    spare: &mut Bytes,
-) -> Arguments {
-    let start = notation::gives(0, at, Fault::None);
-    let n = notation::read_number(row.numbers > 0, 4294967295, line, start);
-    let a = notation::read_bytes(row.strings > 0, 2, line, n, &mut strings[0]);
-    let b = notation::read_bytes(row.strings > 1, 2, line, a, &mut strings[1]);
-    let c = notation::read_bytes(row.strings > 2, 2, line, b, &mut strings[2]);
-    let x = notation::read_list(row.lists > 0, line, c, spare, &mut lists[0]);
-    let y = notation::read_list(row.lists > 1, line, x, spare, &mut lists[1]);
-    let o = notation::read_bytes(row.byte_outputs > 0, 2, line, y, output);
-    let p = notation::read_bytes(row.byte_outputs > 1, 2, line, o, extra);
-    let q = notation::read_list(row.list_outputs > 0, line, p, spare, result);
-    let string_sizes = [a.value, b.value, c.value];
-    let list_sizes = [x.value, y.value];
-    let output_sizes = [o.value, p.value];
-    Arguments {
-        number: narrow(n.value),
-        strings: string_sizes,
-        lists: list_sizes,
-        byte_outputs: output_sizes,
-        list_output: q.value,
-        fault: notation::finish(line, q),
-    }
+) {
+    notation::list_into(part(bytes, ends, 3), left);
+    notation::list_into(part(bytes, ends, 4), right);
+    notation::copy_into(part(bytes, ends, 5), output);
+    notation::copy_into(part(bytes, ends, 6), extra);
+    notation::list_into(part(bytes, ends, 7), result);
 }
 
 // The first n bytes of a buffer, or all of it, and the same of a list.
@@ -67,33 +117,6 @@ fn front(bytes: &[u8], n: usize) -> &[u8] {
 fn list_front(list: &[u16], n: usize) -> &[u16] {
     let end = notation::least(n, list.len());
     &list[0..end]
-}
-
-// Makes a call on the arguments that were read, each of which is the front of its buffer.
-fn call_on(
-    call: Call,
-    a: Arguments,
-    strings: &[Bytes; 3],
-    lists: &[List; 2],
-    output: &mut [u8],
-    extra: &mut [u8],
-    result: &mut [u16],
-) -> u8 {
-    let o = notation::least(a.byte_outputs[0], output.len());
-    let p = notation::least(a.byte_outputs[1], extra.len());
-    let q = notation::least(a.list_output, result.len());
-    calls::make_call(
-        call,
-        a.number,
-        front(&strings[0], a.strings[0]),
-        front(&strings[1], a.strings[1]),
-        front(&strings[2], a.strings[2]),
-        list_front(&lists[0], a.lists[0]),
-        list_front(&lists[1], a.lists[1]),
-        &mut output[0..o],
-        &mut extra[0..p],
-        &mut result[0..q],
-    )
 }
 
 fn print(text: &[u8]) {
@@ -116,7 +139,6 @@ fn print_output(wanted: bool, bytes: &[u8], text: &mut Text) {
 // Prints an answer and every output, the list by way of bytes.
 fn print_answer(
     row: Row,
-    a: Arguments,
     answer: u8,
     output: &[u8],
     extra: &[u8],
@@ -125,50 +147,134 @@ fn print_answer(
     text: &mut Text,
 ) {
     io::print_decimal(1, answer as u64);
-    print_output(row.byte_outputs > 0, front(output, a.byte_outputs[0]), text);
-    print_output(row.byte_outputs > 1, front(extra, a.byte_outputs[1]), text);
-    let n = notation::bytes_into(list_front(result, a.list_output), spare);
+    print_output(row.byte_outputs > 0, output, text);
+    print_output(row.byte_outputs > 1, extra, text);
+    let n = notation::bytes_into(result, spare);
     print_output(row.list_outputs > 0, front(spare, n), text);
 }
 
-// Prints what is wrong with a request, and says whether anything is.
-fn print_fault(fault: Fault) -> bool {
-    match fault {
-        Fault::None => {
-            return false;
-        }
-        Fault::WrongCount => print(b"error wrong count"),
-        Fault::BadDigit => print(b"error bad digit"),
-        Fault::OddCount => print(b"error odd count"),
-        Fault::TooLarge => print(b"error too large"),
+// Makes a call on outputs of the right lengths.
+fn call_on(
+    call: Call,
+    a: Arguments,
+    bytes: &[u8],
+    left: &[u16],
+    right: &[u16],
+    output: &mut [u8],
+    extra: &mut [u8],
+    result: &mut [u16],
+) -> u8 {
+    let ends = a.ends;
+    calls::make_call(
+        call,
+        a.number,
+        part(bytes, ends, 0),
+        part(bytes, ends, 1),
+        part(bytes, ends, 2),
+        list_front(left, part(bytes, ends, 3).len() / 2),
+        list_front(right, part(bytes, ends, 4).len() / 2),
+        output,
+        extra,
+        result,
+    )
+}
+
+// Makes a call and prints its answer. An output is the front of its buffer.
+fn answer_call(
+    call: Call,
+    row: Row,
+    a: Arguments,
+    bytes: &[u8],
+    left: &[u16],
+    right: &[u16],
+    output: &mut [u8],
+    extra: &mut [u8],
+    result: &mut [u16],
+    spare: &mut Bytes,
+    text: &mut Text,
+) {
+    let ends = a.ends;
+    let o = notation::least(part(bytes, ends, 5).len(), output.len());
+    let p = notation::least(part(bytes, ends, 6).len(), extra.len());
+    let q = notation::least(part(bytes, ends, 7).len() / 2, result.len());
+    let answer = call_on(
+        call,
+        a,
+        bytes,
+        left,
+        right,
+        &mut output[0..o],
+        &mut extra[0..p],
+        &mut result[0..q],
+    );
+    print_answer(
+        row,
+        answer,
+        front(output, o),
+        front(extra, p),
+        list_front(result, q),
+        spare,
+        text,
+    );
+}
+
+// Prints what is wrong with a line, and says whether anything is.
+fn print_fault(fault: u8) -> bool {
+    if fault == notation::SOUND {
+        return false;
+    }
+    if fault == notation::WRONG_COUNT {
+        print(b"error wrong count");
+    }
+    if fault == notation::BAD_DIGIT {
+        print(b"error bad digit");
+    }
+    if fault == notation::ODD_COUNT {
+        print(b"error odd count");
+    }
+    if fault == notation::TOO_LARGE {
+        print(b"error too large");
     }
     true
 }
 
 // Prints the reply to a request: what it asks for, or why it cannot be read.
-fn print_reply(
+fn reply(
     row: Row,
     a: Arguments,
-    strings: &[Bytes; 3],
-    lists: &[List; 2],
+    bytes: &Bytes,
+    left: &mut List,
+    right: &mut List,
     output: &mut Bytes,
     extra: &mut Bytes,
     result: &mut List,
     spare: &mut Bytes,
     text: &mut Text,
 ) {
-    let fault = a.fault;
-    if print_fault(fault) {
+    if print_fault(a.fault) {
         return;
     }
+    let ends = a.ends;
     let request = row.request;
     match request {
         Request::Call(call) => {
-            let answer = call_on(call, a, strings, lists, output, extra, result);
-            print_answer(row, a, answer, output, extra, result, spare, text);
+            fill(ends, bytes, left, right, output, extra, result);
+            answer_call(
+                call,
+                row,
+                a,
+                bytes,
+                left,
+                right,
+                output,
+                extra,
+                result,
+                spare,
+                text,
+            );
         }
         Request::PublicKeyOf => {
-            let key = sets::public_key_of(a.number, front(&strings[0], a.strings[0]));
+            let key = sets::public_key_of(a.number, part(bytes, ends, 0));
             print_word(key, text);
         }
     }
@@ -182,43 +288,27 @@ fn list_buffer() -> List {
     [0; 16384]
 }
 
-fn string_buffers() -> [Bytes; 3] {
-    [[0; 32768]; 3]
-}
-
-fn list_buffers() -> [List; 2] {
-    [[0; 16384]; 2]
-}
-
 fn text_buffer() -> Text {
     [0; 65536]
 }
 
 // Answers a request whose arguments start at a place of the line.
 fn answer_request(row: Row, line: &[u8], at: usize) {
-    let mut strings = string_buffers();
-    let mut lists = list_buffers();
+    let mut bytes = byte_buffer();
+    let mut left = list_buffer();
+    let mut right = list_buffer();
     let mut output = byte_buffer();
     let mut extra = byte_buffer();
     let mut result = list_buffer();
     let mut spare = byte_buffer();
     let mut text = text_buffer();
-    let a = read(
-        row,
-        line,
-        at,
-        &mut strings,
-        &mut lists,
-        &mut output,
-        &mut extra,
-        &mut result,
-        &mut spare,
-    );
-    print_reply(
+    let a = read(row, line, at, &mut bytes);
+    reply(
         row,
         a,
-        &strings,
-        &lists,
+        &bytes,
+        &mut left,
+        &mut right,
         &mut output,
         &mut extra,
         &mut result,

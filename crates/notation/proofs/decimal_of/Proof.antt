@@ -9,14 +9,11 @@ pub decimal-of-spec : {M : Type 1} → statement M
 decimal-of-spec =
     tie.close
     (tie.spec
-    (λ word most next number₀ i₀ number i. i ≤ length word)
-    (λ word most next number₀ i₀ number i. length word - i)
-    (λ c κs. search needs)
-    (λ c. search needs)
-    (λ c κs. search needs)
+    (λ word most next bad number₀ i₀ number i. i ≤ length word)
+    (λ word most next bad number₀ i₀ number i. length word - i)
     (λ c. search needs)
     (λ c. search needs)
-    (λ c κs. search needs)
+    (λ c. search needs)
     (λ c κs. search needs)
     (λ c. search needs)
     (λ c κs. search needs)

@@ -1,4 +1,4 @@
--- `notation::list_into` is safe and ends: each number is read from two bytes of the buffer.
+-- `notation::list_into` is safe and ends: each number is read from two bytes.
 use Prim.Native.Nat.{_-_, _≤_}
 use borrow.Author.Needs.{needs}
 use Rattle.notation.proofs.list_into.Statement.{statement}
@@ -8,8 +8,8 @@ pub list-into-spec : {M : Type 1} → statement M
 list-into-spec =
     tie.close
     (tie.spec
-    (λ bytes n list₀ end i₀ list i. i ≤ end)
-    (λ bytes n list₀ end i₀ list i. end - i)
+    (λ bytes list₀ n i₀ list i. i ≤ n)
+    (λ bytes list₀ n i₀ list i. n - i)
     (λ c κs. search needs)
     (λ c. search needs)
     (λ c. search needs)
