@@ -153,9 +153,10 @@ fn print_answer(
     print_output(row.list_outputs > 0, front(spare, n), text);
 }
 
-// Makes a call on outputs of the right lengths.
-fn call_on(
+// Makes a call and prints its answer. A list is the front of its buffer.
+fn answer_with(
     call: Call,
+    row: Row,
     a: Arguments,
     bytes: &[u8],
     left: &[u16],
@@ -163,9 +164,11 @@ fn call_on(
     output: &mut [u8],
     extra: &mut [u8],
     result: &mut [u16],
-) -> u8 {
+    spare: &mut Bytes,
+    text: &mut Text,
+) {
     let ends = a.ends;
-    calls::make_call(
+    let answer = calls::make_call(
         call,
         a.number,
         part(bytes, ends, 0),
@@ -176,10 +179,11 @@ fn call_on(
         output,
         extra,
         result,
-    )
+    );
+    print_answer(row, answer, output, extra, result, spare, text);
 }
 
-// Makes a call and prints its answer. An output is the front of its buffer.
+// The same, where an output is the front of its buffer too.
 fn answer_call(
     call: Call,
     row: Row,
@@ -197,8 +201,9 @@ fn answer_call(
     let o = notation::least(part(bytes, ends, 5).len(), output.len());
     let p = notation::least(part(bytes, ends, 6).len(), extra.len());
     let q = notation::least(part(bytes, ends, 7).len() / 2, result.len());
-    let answer = call_on(
+    answer_with(
         call,
+        row,
         a,
         bytes,
         left,
@@ -206,13 +211,6 @@ fn answer_call(
         &mut output[0..o],
         &mut extra[0..p],
         &mut result[0..q],
-    );
-    print_answer(
-        row,
-        answer,
-        front(output, o),
-        front(extra, p),
-        list_front(result, q),
         spare,
         text,
     );
