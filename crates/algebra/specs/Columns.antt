@@ -1,4 +1,4 @@
--- A coefficient of the ring product as one sum of n terms. Definitions only.
+-- A coefficient of the ring product as one sum of n terms.
 use Prim.Native.Nat.{ℕ, suc, _+_, _-_}
 use mathlib.Core.Bool.{cond}
 use mathlib.Core.List.{List}

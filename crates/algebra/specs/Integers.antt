@@ -1,4 +1,4 @@
--- Whole numbers: how far they lie above and below zero, residues and quotients, and sums by a count. Definitions only.
+-- Whole numbers: how far they lie above and below zero, residues and quotients, and sums by a count.
 use Prim.Native.Nat.{ℕ, zero, suc, _-_, _/_, _%_}
 use lib.IntN.{ℤ, pos, negsuc, _+ℤ_}
 

@@ -1,4 +1,4 @@
--- Document 01, "Ring and sampling": polynomials over the whole numbers with X^n = -1, vectors of them, and their residues. Definitions only.
+-- Document 01, "Ring and sampling": polynomials over the whole numbers with X^n = -1, vectors of them, and their residues.
 -- A polynomial is the list of its coefficients, that of X^0 first.
 use Prim.Native.Nat.{ℕ, zero, suc, _+_, _*_, _-_}
 use mathlib.Core.List.{List, [], _++_, map}

@@ -37,11 +37,12 @@ fn secret_key_into(l: usize, secret: &[u16], public_key: &[u8], z: &[u8], secret
 {
     let e = 416 * l;
     let h = e + public_key.len();
+    let f = h + 32;
     packing::pack_into(13, secret, &mut secret_key[0..e]);
     lists::copy_at(public_key, secret_key, e);
     let hash = sha3::hash256(public_key);
     lists::copy_at(&hash, secret_key, h);
-    lists::copy_at(z, secret_key, h + 32);
+    lists::copy_at(z, secret_key, f);
 }
 
 // Makes keys at arguments of the set's lengths; the caller lends the place for the secret.
