@@ -20,12 +20,8 @@ numbered [] = true
 numbered (q ∷ qs) = ltb 0 (q .1) && numbered qs
 
 -- what an answer of 0 says of the first question, and of the later ones
-pub record Yes (yes : Bool) (rest : ℕ) : Type 0 where
-  pub first : yes ≡ true
-  pub later : rest ≡ 0
-
-pub asked : (yes : Bool) (number rest : ℕ) → 0 < number → ask yes number rest ≡ 0 → Yes yes rest
-asked true number rest h e = record { first = refl; later = e }
+asked : (yes : Bool) (number rest : ℕ) → 0 < number → ask yes number rest ≡ 0 → (yes ≡ true) × (rest ≡ 0)
+asked true number rest h e = (refl, e)
 asked false number rest h e = absurd (omega arith)
 
 -- an answer of 0 means every yes
@@ -34,7 +30,7 @@ unfolding earliest
 all-yes [] n a z = tt
 all-yes (q ∷ qs) n a z =
     let y = asked (q .0) (q .1) (earliest qs) (ltb-true 0 (q .1) (and-left (ltb 0 (q .1)) (numbered qs) n)) (sym a ∙ z) in
-    (y .first, all-yes qs (and-right (ltb 0 (q .1)) (numbered qs) n) refl (y .later))
+    (y .0, all-yes qs (and-right (ltb 0 (q .1)) (numbered qs) n) refl (y .1))
 
 -- and every yes means an answer of 0
 pub none-no : (qs : List Question) → AllYes qs → earliest qs ≡ 0
