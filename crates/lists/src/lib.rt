@@ -1,7 +1,7 @@
 // Strings of bytes: copied, compared, joined, and read and written as little-endian numbers.
 ghost use mathlib.Core.List.{_++_};
 ghost use mathlib.Core.Path.{_≡_};
-ghost use Prim.Native.Nat.{_+_, _^_, _<_, _≤_};
+ghost use Prim.Native.Nat.{_+_, _*_, _^_, _<_, _≤_};
 ghost use lib.ListN.{length, take, drop};
 ghost use Rattle.lists.specs.Numbers.{number, digits};
 ghost use Rattle.lists.specs.Strings;
@@ -42,10 +42,11 @@ pub fn join(a: &[u8], b: &[u8], out: &mut [u8])
     copy_at(b, out, a.len());
 }
 
-fn wide(x: u8) -> u64
-    ensures { λ r. ⌜ (r ≡ x) × (r < 256) ⌝ }
+// The number of four bytes, lowest first.
+fn joined(a: u8, b: u8, c: u8, d: u8) -> u64
+    ensures { λ r. ⌜ (r ≡ a + 256 * (b + 256 * (c + 256 * d))) × (r < 2 ^ 32) ⌝ }
 {
-    x as u64
+    a as u64 + 256 * (b as u64 + 256 * (c as u64 + 256 * (d as u64)))
 }
 
 // The number of four bytes from a place on.
@@ -53,11 +54,7 @@ pub fn load32(bytes: &[u8], at: usize) -> u64
     requires { ⌜ at + 4 ≤ length (now bytes) ⌝ }
     ensures { λ r. ⌜ (r ≡ number 256 (take 4 (drop at (now (bytes .entry))))) × (r < 2 ^ 32) ⌝ }
 {
-    let a = wide(bytes[at]);
-    let b = wide(bytes[at + 1]);
-    let c = wide(bytes[at + 2]);
-    let d = wide(bytes[at + 3]);
-    a + 256 * (b + 256 * (c + 256 * d))
+    joined(bytes[at], bytes[at + 1], bytes[at + 2], bytes[at + 3])
 }
 
 // The number of eight bytes from a place on.

@@ -11,15 +11,6 @@ use Rattle.sets.specs.Laws.Rows.{few-rows}
 use Rattle.correctness.proofs.plain_secret_of.Statement.{statement}
 use Rattle.correctness.proofs.plain_secret_of.Tie as tie
 
-mul-n : tie.Need-mul-n
-mul-n c = omega (arith, few-rows _ (c .before .set-params .ensures))
-
-returns : tie.Need-returns
-returns c =
-    let found = c .before .before .before in
-    let sk = found .before .before .args .«secret-key» .now in
-    first-part (416 * found .set-params .result .l) sk ∙ ap (λ (p : Params). take (416 * p .l) sk) (found .set-params .ensures)
-
 returns-2 : tie.Need-returns-2
 returns-2 c =
     let found = c .before .before in
@@ -32,9 +23,12 @@ plain-secret-of-spec =
     tie.close
     (tie.spec
     (λ c κs. search needs)
-    mul-n
+    (λ c. omega (arith, few-rows _ (c .before .set-params .ensures)))
     (λ c. search needs)
     (λ c. search needs)
     (λ c. search needs)
-    returns
+    (λ c.
+    let found = c .before .before .before in
+    let sk = found .before .before .args .«secret-key» .now in
+    first-part (416 * found .set-params .result .l) sk ∙ ap (λ (p : Params). take (416 * p .l) sk) (found .set-params .ensures))
     returns-2)

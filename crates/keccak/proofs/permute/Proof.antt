@@ -25,11 +25,6 @@ loop-again c =
     let i = c .before .before .loop .i in
     (omega arith, rw (add-one i) (c .rnd .ensures ∙ ap (λ (s : State). rnd s (getD constants i 0)) (c .before .before .loop .inv .1)))
 
-returns : tie.Need-returns Inv-loop μ-loop
-returns c =
-    let e : c .before .loop .i ≡ 24 = omega arith in
-    rw e at (c .before .loop .inv .1)
-
 pub permute-spec : {M : Type 1} → statement M
 permute-spec =
     tie.close
@@ -43,4 +38,6 @@ permute-spec =
     (λ c. search needs)
     (λ c. search needs)
     loop-again
-    returns)
+    (λ c.
+    let e : c .before .loop .i ≡ 24 = omega arith in
+    rw e at (c .before .loop .inv .1)))

@@ -7,12 +7,6 @@ use Rattle.kem.specs.Laws.Kem.{decaps-space, decaps-done}
 use Rattle.kem.proofs.decaps.Statement.{statement}
 use Rattle.kem.proofs.decaps.Tie as tie
 
-decaps-with-requires : tie.Need-decaps-with-requires
-decaps-with-requires c κs =
-    let params = c .before .before .before .before in
-    decaps-space _ (params .set-params .ensures) (params .before .if1 .left) _ _ _ (params .before .before .decaps-answer .ensures)
-    (search needs) (search needs)
-
 pub decaps-spec : {M : Type 1} → statement M
 decaps-spec =
     tie.close
@@ -27,6 +21,9 @@ decaps-spec =
     (λ c. search needs)
     (λ c. search needs)
     (λ c. omega (arith, few-bytes))
-    decaps-with-requires
+    (λ c κs.
+    let params = c .before .before .before .before in
+    decaps-space _ (params .set-params .ensures) (params .before .if1 .left) _ _ _ (params .before .before .decaps-answer .ensures)
+    (search needs) (search needs))
     (λ c. search needs)
     (λ c. search decaps-done))

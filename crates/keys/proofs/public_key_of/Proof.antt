@@ -22,12 +22,6 @@ within c =
     subst (λ (p : Params). Found p (length (c .before .before .before .before .args .«secret-key» .now))) (sym (c .set-params .ensures))
     (found _ _ (asked-all (c .before)))
 
-returns : tie.Need-returns
-returns c = refused _ _ _ (λ e. c .before .if1 .taken (c .before .before .lookup-answer .ensures ∙ e))
-
-returns-2 : tie.Need-returns-2
-returns-2 c = lookup-part _ _ _ (c .before .before .before .set-params .ensures) (asked-all (c .before .before .before .before))
-
 pub public-key-of-spec : {M : Type 1} → statement M
 public-key-of-spec =
     tie.close
@@ -36,11 +30,11 @@ public-key-of-spec =
     (λ c. search needs)
     (λ c. search needs)
     (λ c. search needs)
-    returns
+    (λ c. refused _ _ _ (λ e. c .before .if1 .taken (c .before .before .lookup-answer .ensures ∙ e)))
     (λ c κs. search needs)
     (λ c. omega (arith, within (c .before)))
     (λ c. omega (arith, within (c .before .before)))
     (λ c. search needs)
     (λ c. search needs)
     (λ c. omega (arith, within (c .before .before)))
-    returns-2)
+    (λ c. lookup-part _ _ _ (c .before .before .before .set-params .ensures) (asked-all (c .before .before .before .before))))

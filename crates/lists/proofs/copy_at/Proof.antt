@@ -16,26 +16,11 @@ Inv-loop from to₀ at i₀ to i = (i ≤ length from) × (to ≡ paste to₀ at
 abbrev μ-loop : tie.MeasureT-loop
 μ-loop from to₀ at i₀ to i = length from - i
 
-loop-holds : tie.Need-loop-holds Inv-loop μ-loop
-loop-holds c = (search needs, paste-zero (c .args .to .now) (c .args .at) (c .args .from .now))
-
 -- the whole is as long as before
 long : (c : tie.At-loop Inv-loop μ-loop) → length (c .loop .to) ≡ length (c .before .args .to .now)
 long c =
     let a = c .before .args in
     ap length (c .loop .inv .1) ∙ length-paste (a .to .now) (a .at) (a .from .now) (c .loop .i) (omega arith) (omega arith)
-
-loop-again : tie.Need-loop-again Inv-loop μ-loop
-loop-again c =
-    let a = c .before .before .before .args in
-    let l = c .before .before .loop in
-    (omega arith, rw (l .inv .1, add-one (l .i)) (paste-suc (a .to .now) (a .at) (a .from .now) (l .i) 0 (omega arith) (omega arith)))
-
-returns : tie.Need-returns Inv-loop μ-loop
-returns c =
-    let a = c .before .before .args in
-    let e : c .before .loop .i ≡ length (a .from .now) = omega arith in
-    c .before .loop .inv .1 ∙ rw e (placed-paste (a .at) (a .from .now) (a .to .now))
 
 pub copy-at-spec : {M : Type 1} → statement M
 copy-at-spec =
@@ -43,12 +28,18 @@ copy-at-spec =
     (tie.spec
     Inv-loop
     μ-loop
-    loop-holds
+    (λ c. (search needs, paste-zero (c .args .to .now) (c .args .at) (c .args .from .now)))
     (λ c. search needs)
     (λ c. search needs)
     (λ c. omega (arith, long (c .before .before)))
     (λ c. search needs)
     (λ c. search needs)
-    loop-again
+    (λ c.
+    let a = c .before .before .before .args in
+    let l = c .before .before .loop in
+    (omega arith, rw (l .inv .1, add-one (l .i)) (paste-suc (a .to .now) (a .at) (a .from .now) (l .i) 0 (omega arith) (omega arith))))
     (λ c. long (c .before))
-    returns)
+    (λ c.
+    let a = c .before .before .args in
+    let e : c .before .loop .i ≡ length (a .from .now) = omega arith in
+    c .before .loop .inv .1 ∙ rw e (placed-paste (a .at) (a .from .now) (a .to .now))))

@@ -1,8 +1,8 @@
--- `lists::load32` meets its contract: the four bytes are the digits of the sum.
+-- `lists::load32` meets its contract: the four bytes are the digits of the number.
 use borrow.Author.Needs.{needs}
 use Prim.Native.Nat.{ℕ, suc, _+_, _*_, _≤_}
 use mathlib.Core.List.{List}
-use mathlib.Core.Path.{_≡_}
+use mathlib.Core.Path.{_≡_, sym, _∙_}
 use native.Mathlib.Omega.{arith}
 use native.Mathlib.Numerals.{add-one, add-two, add-three}
 use lib.ListN.{length, getD, take, drop}
@@ -27,30 +27,16 @@ word-is bs i h =
     )
     (omega arith)
 
-returns : tie.Need-returns
-returns c =
-    let a = c .before .before .before .before .before .before .before .before .before in
-    (omega (arith, word-is (a .args .bytes .now) (a .args .at) (a .pre)), omega arith)
-
 pub load32-spec : {M : Type 1} → statement M
 load32-spec =
     tie.close
     (tie.spec
     (λ c. search needs)
-    (λ c κs. search needs)
     (λ c. search needs)
     (λ c. search needs)
-    (λ c κs. search needs)
     (λ c. search needs)
     (λ c. search needs)
-    (λ c κs. search needs)
     (λ c. search needs)
     (λ c. search needs)
     (λ c κs. search needs)
-    (λ c. search needs)
-    (λ c. search needs)
-    (λ c. search needs)
-    (λ c. search needs)
-    (λ c. search needs)
-    (λ c. search needs)
-    returns)
+    (λ c. (c .joined .ensures .0 ∙ sym (word-is _ _ (c .before .before .before .before .before .before .pre)), c .joined .ensures .1)))

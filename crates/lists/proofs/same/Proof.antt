@@ -19,17 +19,6 @@ loop-holds : tie.Need-loop-holds Inv-loop μ-loop
 unfolding same
 loop-holds c = (search needs, refl)
 
-loop-again : tie.Need-loop-again Inv-loop μ-loop
-loop-again c =
-    let start = c .before .before .before .before in
-    let at = c .before .before .before .loop in
-    (omega arith, same-more (start .args .a .now) (start .args .b .now) (at .i) (at .equal) (omega arith) (start .pre) (at .inv .1))
-
-returns : tie.Need-returns Inv-loop μ-loop
-returns c =
-    let start = c .before .before in
-    c .before .loop .inv .1 ∙ same-all (start .args .a .now) (start .args .b .now) (c .before .loop .i) (omega arith) (start .pre)
-
 pub same-spec : {M : Type 1} → statement M
 same-spec =
     tie.close
@@ -41,5 +30,10 @@ same-spec =
     (λ c. omega arith)
     (λ c. search needs)
     (λ c. search needs)
-    loop-again
-    returns)
+    (λ c.
+    let start = c .before .before .before .before in
+    let at = c .before .before .before .loop in
+    (omega arith, same-more (start .args .a .now) (start .args .b .now) (at .i) (at .equal) (omega arith) (start .pre) (at .inv .1)))
+    (λ c.
+    let start = c .before .before in
+    c .before .loop .inv .1 ∙ same-all (start .args .a .now) (start .args .b .now) (c .before .loop .i) (omega arith) (start .pre)))

@@ -10,18 +10,12 @@ use Rattle.lists.specs.Laws.Numbers.{digits-from, pow-mul}
 use Rattle.lists.proofs.store.Statement.{statement}
 use Rattle.lists.proofs.store.Tie as tie
 
-abbrev Inv-loop : tie.InvT-loop
-Inv-loop bytes₀ x i₀ bytes i = Filled (length bytes₀) bytes i (digit 256 x)
-
-abbrev μ-loop : tie.MeasureT-loop
-μ-loop bytes₀ x i₀ bytes i = length bytes₀ - i
-
 pub store-spec : {M : Type 1} → statement M
 store-spec =
     tie.close
     (tie.spec
-    Inv-loop
-    μ-loop
+    (λ bytes₀ x i₀ bytes i. Filled (length bytes₀) bytes i (digit 256 x))
+    (λ bytes₀ x i₀ bytes i. length bytes₀ - i)
     (λ c. fill-none refl)
     (λ c. search needs)
     (λ c. search needs)

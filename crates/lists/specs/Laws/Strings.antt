@@ -68,14 +68,3 @@ placed-front s out = rw (zero-add (length s))
 
 pub placed-whole : (s out : List ℕ) → length out ≡ length s → placed 0 s out ≡ s
 placed-whole s out l = placed-front s out ∙ rw (drop-of-length-le out {i = length s} (omega arith)) (append-nil s)
-
--- one string in front and another behind it, which fill the whole
-pub placed-two :
-    (a b out : List ℕ) {first whole : List ℕ} → length out ≡ length a + length b → first ≡ placed 0 a out → whole ≡ placed (length a) b first →
-    whole ≡ a ++ b
-placed-two a b out {first} {whole} l p q =
-    let h : 0 + length a ≤ length out = omega arith in
-    let k : length a + length b ≤ length first = omega (arith, ap length p, length-placed 0 a out h) in
-    sym (take-all (length a + length b) whole (omega (arith, ap length q, length-placed (length a) b first k, ap length p, length-placed 0 a out h)))
-    ∙ ap (take (length a + length b)) q
-    ∙ placed-next (length a) b first k a (length a + length b) refl (ap (take (length a)) p ∙ placed-next 0 a out h [] (length a) (omega arith) refl)

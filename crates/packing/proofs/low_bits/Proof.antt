@@ -11,11 +11,5 @@ use Rattle.packing.proofs.low_bits.Tie as tie
 base : (c : tie.Start) → 1 * 2 ^ c .args .width % 2 ^ 64 ≡ 2 ^ c .args .width
 base c = shl-exact 1 (c .args .width) 64 (omega arith) (omega arith) ∙ one-mul (2 ^ c .args .width)
 
-rem-result : tie.Need-rem-result
-rem-result c = rw (base c) (pow-pos (c .args .width))
-
-cast-result : tie.Need-cast-result
-cast-result c = record { fits = rw (base c) (lt-of-lt-of-le (mod-lt (c .args .acc) (pow-pos (c .args .width))) (pow-mono {j = 16} (c .pre))) }
-
 pub low-bits-spec : {M : Type 1} → statement M
-low-bits-spec = tie.close (tie.spec (λ c. search needs) rem-result cast-result (λ c. ap (λ (n : ℕ). c .args .acc % n) (base c)))
+low-bits-spec = tie.close (tie.spec (λ c. search needs) (λ c. rw (base c) (pow-pos (c .args .width))) (λ c. record { fits = rw (base c) (lt-of-lt-of-le (mod-lt (c .args .acc) (pow-pos (c .args .width))) (pow-mono {j = 16} (c .pre))) }) (λ c. ap (λ (n : ℕ). c .args .acc % n) (base c)))

@@ -29,11 +29,6 @@ unfolding earliest
 nest w bytes cs true e = rw (e, power w e)
 nest w bytes cs false e = rw e
 
-returns : tie.Need-returns
-returns c =
-    let a = c .before .before .before .before .before .before .before .args in
-    cc (nest (a .width) (a .bytes) (a .coefficients .now) _ refl)
-
 pub pack-answer-spec : {M : Type 1} → statement M
 pack-answer-spec =
     tie.close
@@ -46,4 +41,6 @@ pack-answer-spec =
     (λ c κs. search needs)
     (λ c κs. search needs)
     (λ c κs. search needs)
-    returns)
+    (λ c.
+    let a = c .before .before .before .before .before .before .before .args in
+    cc (nest (a .width) (a .bytes) (a .coefficients .now) _ refl)))

@@ -12,9 +12,6 @@ use Rattle.pke.proofs.data_into.Tie as tie
 slice-aggregate-recon-into : tie.Need-slice-aggregate-recon-into
 slice-aggregate-recon-into c = sym (ap length (c .before .mask-into .ensures) ∙ length-masked _ _)
 
-recon-into-requires : tie.Need-recon-into-requires
-recon-into-requires c κs = record { zeros = search needs; power = search needs; places = slice-aggregate-recon-into (c .before) }
-
 pub data-into-spec : {M : Type 1} → statement M
 data-into-spec =
     tie.close
@@ -25,7 +22,7 @@ data-into-spec =
     (λ c κs. search needs)
     slice-aggregate-recon-into
     (λ c. search needs)
-    recon-into-requires
+    (λ c κs. record { zeros = search needs; power = search needs; places = slice-aggregate-recon-into (c .before) })
     (λ c. search needs)
     (λ c κs. polynomials-fill _ 1 _ _ (search needs) (omega arith) (omega arith) (omega arith))
     (λ c. search needs)

@@ -8,19 +8,13 @@ use Rattle.reconciliation.specs.Reconciliation.{masked, maskedPoly}
 use Rattle.reconciliation.proofs.mask_into.Statement.{statement}
 use Rattle.reconciliation.proofs.mask_into.Tie as tie
 
-abbrev Inv-loop : tie.InvT-loop
-Inv-loop v bits out₀ k₀ out k = Filled 256 out k (λ j. masked (getD v j 0) (getD bits j 0))
-
-abbrev μ-loop : tie.MeasureT-loop
-μ-loop v bits out₀ k₀ out k = 256 - k
-
 pub mask-into-spec : {M : Type 1} → statement M
 unfolding maskedPoly
 mask-into-spec =
     tie.close
     (tie.spec
-    Inv-loop
-    μ-loop
+    (λ v bits out₀ k₀ out k. Filled 256 out k (λ j. masked (getD v j 0) (getD bits j 0)))
+    (λ v bits out₀ k₀ out k. 256 - k)
     (λ c. fill-none (search needs))
     (λ c. search needs)
     (λ c. search needs)

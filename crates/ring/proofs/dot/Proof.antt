@@ -21,11 +21,6 @@ loop-holds : tie.Need-loop-holds Inv-loop μ-loop
 unfolding dot sum
 loop-holds c = search needs
 
-returns : tie.Need-returns Inv-loop μ-loop
-returns c =
-    let e : c .before .loop .i ≡ length (c .before .before .before .before .args .a .now) = omega arith in
-    cc
-
 pub dot-spec : {M : Type 1} → statement M
 dot-spec =
     tie.close
@@ -42,4 +37,6 @@ dot-spec =
     (λ c. search needs)
     (λ c. search needs)
     (λ c. (omega arith, search dot-more))
-    returns)
+    (λ c.
+    let e : c .before .loop .i ≡ length (c .before .before .before .before .args .a .now) = omega arith in
+    cc))

@@ -12,21 +12,12 @@ use Rattle.ring.specs.Laws.Columns.{part-length, add-coef}
 use Rattle.ring.proofs.mul_add.Statement.{statement}
 use Rattle.ring.proofs.mul_add.Tie as tie
 
-abbrev Inv-loop : tie.InvT-loop
-Inv-loop a b acc p w out₀ k₀ out k = Filled 256 out k (λ (k : ℕ). modℤ (at (nat acc) k +ℤ coef 256 (nat a) (nat b) k) 65536)
-
-abbrev μ-loop : tie.MeasureT-loop
-μ-loop a b acc p w out₀ k₀ out k = 256 - k
-
-loop-again : tie.Need-loop-again Inv-loop μ-loop
-loop-again c = fill-more (omega arith) (c .before .before .before .before .before .loop .inv) (search add-coef)
-
 pub mul-add-spec : {M : Type 1} → statement M
 mul-add-spec =
     tie.close
     (tie.spec
-    Inv-loop
-    μ-loop
+    (λ a b acc p w out₀ k₀ out k. Filled 256 out k (λ (k : ℕ). modℤ (at (nat acc) k +ℤ coef 256 (nat a) (nat b) k) 65536))
+    (λ a b acc p w out₀ k₀ out k. 256 - k)
     (λ c. simp length-take (omega arith))
     (λ c κs. search needs)
     (λ c. fill-none refl)
@@ -44,5 +35,5 @@ mul-add-spec =
     (λ c. search needs)
     (λ c. search needs)
     (λ c. search needs)
-    loop-again
+    (λ c. fill-more (omega arith) (c .before .before .before .before .before .loop .inv) (search add-coef))
     (λ c. fill-all (omega arith) (c .before .loop .inv)))

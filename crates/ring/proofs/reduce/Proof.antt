@@ -9,18 +9,12 @@ use Rattle.lists.specs.Laws.Lists.{from-map}
 use Rattle.ring.proofs.reduce.Statement.{statement}
 use Rattle.ring.proofs.reduce.Tie as tie
 
-abbrev Inv-loop : tie.InvT-loop
-Inv-loop m out₀ acc k₀ out k = Filled 256 out k (λ (k : ℕ). getD acc k 0 % m)
-
-abbrev μ-loop : tie.MeasureT-loop
-μ-loop m out₀ acc k₀ out k = 256 - k
-
 pub reduce-spec : {M : Type 1} → statement M
 reduce-spec =
     tie.close
     (tie.spec
-    Inv-loop
-    μ-loop
+    (λ m out₀ acc k₀ out k. Filled 256 out k (λ (k : ℕ). getD acc k 0 % m))
+    (λ m out₀ acc k₀ out k. 256 - k)
     (λ c. fill-none (omega arith))
     (λ c. search needs)
     (λ c. search needs)

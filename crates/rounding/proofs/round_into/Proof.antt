@@ -10,18 +10,12 @@ use Rattle.lists.specs.Laws.Lists.{from-map}
 use Rattle.rounding.proofs.round_into.Statement.{statement}
 use Rattle.rounding.proofs.round_into.Tie as tie
 
-abbrev Inv-loop : tie.InvT-loop
-Inv-loop x rounded₀ k₀ rounded k = Filled (length x) rounded k (λ (k : ℕ). round (getD x k 0))
-
-abbrev μ-loop : tie.MeasureT-loop
-μ-loop x rounded₀ k₀ rounded k = length x - k
-
 pub round-into-spec : {M : Type 1} → statement M
 round-into-spec =
     tie.close
     (tie.spec
-    Inv-loop
-    μ-loop
+    (λ x rounded₀ k₀ rounded k. Filled (length x) rounded k (λ (k : ℕ). round (getD x k 0)))
+    (λ x rounded₀ k₀ rounded k. length x - k)
     (λ c. fill-none (omega arith))
     (λ c. search needs)
     (λ c. search needs)

@@ -29,20 +29,6 @@ within :
     256 * (x .start + x .step * c .before .loop .j) + 256 ≤ length (x .a .now)
 within c = c .before .before .before .before .pre .first (c .before .loop .j) (omega arith)
 
-mul-add-requires : tie.Need-mul-add-requires Inv-loop μ-loop
-mul-add-requires c κs = simp (length-take, length-drop) (omega (arith, within (c .before .before)))
-
-loop-again : tie.Need-loop-again Inv-loop μ-loop
-loop-again c =
-    let d = c .before .before .before .before in
-    let x = d .before .before .before .args in
-    (inner-turn (x .a .now) (x .s .now) (λ i. x .start + x .step * i) (d .loop .j) (d .loop .inv .0) (c .mul-add .ensures), omega arith)
-
-returns : tie.Need-returns Inv-loop μ-loop
-returns c =
-    let e : c .before .loop .j ≡ c .before .before .before .before .args .l = omega arith in
-    cc
-
 pub inner-spec : {M : Type 1} → statement M
 inner-spec =
     tie.close
@@ -64,8 +50,13 @@ inner-spec =
     (λ c. search needs)
     (λ c. search needs)
     (λ c. search needs)
-    mul-add-requires
+    (λ c κs. simp (length-take, length-drop) (omega (arith, within (c .before .before))))
     (λ c. search needs)
     (λ c. search needs)
-    loop-again
-    returns)
+    (λ c.
+    let d = c .before .before .before .before in
+    let x = d .before .before .before .args in
+    (inner-turn (x .a .now) (x .s .now) (λ i. x .start + x .step * i) (d .loop .j) (d .loop .inv .0) (c .mul-add .ensures), omega arith))
+    (λ c.
+    let e : c .before .loop .j ≡ c .before .before .before .before .args .l = omega arith in
+    cc))
