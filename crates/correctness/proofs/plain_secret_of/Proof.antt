@@ -11,13 +11,6 @@ use Rattle.sets.specs.Laws.Rows.{few-rows}
 use Rattle.correctness.proofs.plain_secret_of.Statement.{statement}
 use Rattle.correctness.proofs.plain_secret_of.Tie as tie
 
-returns-2 : tie.Need-returns-2
-returns-2 c =
-    let found = c .before .before in
-    let sk = found .before .before .args .«secret-key» .now in
-    sym (take-all (416 * found .set-params .result .l) sk (omega (arith, c .if1 .left)))
-    ∙ ap (λ (p : Params). take (416 * p .l) sk) (found .set-params .ensures)
-
 pub plain-secret-of-spec : {M : Type 1} → statement M
 plain-secret-of-spec =
     tie.close
@@ -31,4 +24,8 @@ plain-secret-of-spec =
     let found = c .before .before .before in
     let sk = found .before .before .args .«secret-key» .now in
     first-part (416 * found .set-params .result .l) sk ∙ ap (λ (p : Params). take (416 * p .l) sk) (found .set-params .ensures))
-    returns-2)
+    (λ c.
+    let found = c .before .before in
+    let sk = found .before .before .args .«secret-key» .now in
+    sym (take-all (416 * found .set-params .result .l) sk (omega (arith, c .if1 .left)))
+    ∙ ap (λ (p : Params). take (416 * p .l) sk) (found .set-params .ensures)))

@@ -7,7 +7,7 @@ use native.Mathlib.Omega.{arith}
 use lib.ListN.{length}
 use borrow.Author.Tests.{eq-eqb}
 use Rattle.questions.specs.Answers.{earliest, written}
-use Rattle.questions.specs.Laws.Answers.{accepted, none-no}
+use Rattle.questions.specs.Laws.Answers.{_and_, accepted, none-no}
 use Rattle.sets.specs.declared.Params.{Params}
 use Rattle.sets.specs.Sets
 use Rattle.sets.specs.Sets.{paramsOf}
@@ -74,25 +74,9 @@ module _
   keygen-accepts : r1 ≡ 0
   keygen-accepts =
       calls .keygen .answers ∙
-      none-no (keygenQuestions set (length matrixSeed) (length secretSeed) (length z) (length pk) (length sk)) (
-        known,
-        (
-          eq-eqb _ 32 (ready .matrixSeedLong),
-          (
-            eq-eqb _ 32 (ready .secretSeedLong),
-            (
-              eq-eqb _ 32 (ready .zLong),
-              (
-                eq-eqb _ (p .pk) (ready .pkLong),
-                (
-                  eq-eqb _ (p .sk) (ready .skLong),
-                  (tt),
-                ),
-              ),
-            ),
-          ),
-        ),
-      )
+      none-no (keygenQuestions set (length matrixSeed) (length secretSeed) (length z) (length pk) (length sk))
+      (known and eq-eqb _ 32 (ready .matrixSeedLong) and eq-eqb _ 32 (ready .secretSeedLong) and eq-eqb _ 32 (ready .zLong)
+      and eq-eqb _ (p .pk) (ready .pkLong) and eq-eqb _ (p .sk) (ready .skLong) and tt)
 
   pk-is : pk' ≡ publicKey p matrixSeed secretSeed
   pk-is = taken _ pk keygen-accepts (calls .keygen .public)
@@ -103,22 +87,9 @@ module _
   encaps-accepts : r2 ≡ 0
   encaps-accepts =
       encapsulation .answers ∙
-      none-no (encapsQuestions set (length pk') (length seed) (length ct) (length ss)) (
-        known,
-        (
-          eq-eqb _ 32 (ready .seedLong),
-          (
-            eq-eqb _ (p .pk) (ap length pk-is ∙ length-public p row matrixSeed secretSeed z),
-            (
-              eq-eqb _ (p .ct) (ready .ctLong),
-              (
-                eq-eqb _ 32 (ready .ssLong),
-                (tt),
-              ),
-            ),
-          ),
-        ),
-      )
+      none-no (encapsQuestions set (length pk') (length seed) (length ct) (length ss))
+      (known and eq-eqb _ 32 (ready .seedLong) and eq-eqb _ (p .pk) (ap length pk-is ∙ length-public p row matrixSeed secretSeed z)
+      and eq-eqb _ (p .ct) (ready .ctLong) and eq-eqb _ 32 (ready .ssLong) and tt)
 
   ct-is : ct' ≡ seedsCiphertext p matrixSeed secretSeed seed
   ct-is = taken _ ct encaps-accepts (encapsulation .ciphertext) ∙ ap (λ (k : List ℕ). encapsCiphertext p k seed) pk-is
@@ -130,36 +101,17 @@ module _
   decrypt-accepts : r3 ≡ 0
   decrypt-accepts =
       decryption .answers ∙
-      none-no (decryptQuestions set (length (plainPart p sk')) (length ct') (length message)) (
-        known,
-        (
-          eq-eqb _ (416 * p .l) (ap (λ (k : List ℕ). length (plainPart p k)) sk-is ∙ length-plainPart p row matrixSeed secretSeed z),
-          (
-            eq-eqb _ (p .ct) ct-long,
-            (
-              eq-eqb _ 32 (ready .messageLong),
-              (tt),
-            ),
-          ),
-        ),
-      )
+      none-no (decryptQuestions set (length (plainPart p sk')) (length ct') (length message))
+      (known
+      and eq-eqb _ (416 * p .l) (ap (λ (k : List ℕ). length (plainPart p k)) sk-is ∙ length-plainPart p row matrixSeed secretSeed z)
+      and eq-eqb _ (p .ct) ct-long and eq-eqb _ 32 (ready .messageLong) and tt)
 
   decaps-accepts : r4 ≡ 0
   decaps-accepts =
       decapsulation .answers ∙
-      none-no (decapsQuestions set (length sk') (length ct') (length secret)) (
-        known,
-        (
-          eq-eqb _ (p .sk) (ap length sk-is ∙ length-secretKey p row matrixSeed secretSeed z (ready .zLong)),
-          (
-            eq-eqb _ (p .ct) ct-long,
-            (
-              eq-eqb _ 32 (ready .secretLong),
-              (tt),
-            ),
-          ),
-        ),
-      )
+      none-no (decapsQuestions set (length sk') (length ct') (length secret))
+      (known and eq-eqb _ (p .sk) (ap length sk-is ∙ length-secretKey p row matrixSeed secretSeed z (ready .zLong))
+      and eq-eqb _ (p .ct) ct-long and eq-eqb _ 32 (ready .secretLong) and tt)
 
   -- no call refuses, whatever the seeds hold
   pub accepts : Accepted r1 r2 r3 r4
@@ -206,7 +158,10 @@ trip sets a s z seed pk sk ct ss m t {r1} {r2} {r3} {r4} {r} calls e = record {
   calls = calls;
   answers = e;
   accepts = λ ready.
-      let y = accepts sets a s z seed pk sk ct ss m t r1 r2 r3 r4 _ _ _ _ _ _ ready calls in
-      (y, e ∙ none-no (refusals r1 r2 r3 r4) (eq-eqb r1 0 (y .keygen), (eq-eqb r2 0 (y .encaps), (eq-eqb r3 0 (y .decrypt), (eq-eqb r4 0 (y .decaps), tt)))));
+      let y = accepts sets a s z seed pk sk ct ss m t r1 r2 r3 r4 _ _ _ _ _ _ ready calls in (
+        y,
+        e ∙ none-no (refusals r1 r2 r3 r4)
+            (eq-eqb r1 0 (y .keygen) and eq-eqb r2 0 (y .encaps) and eq-eqb r3 0 (y .decrypt) and eq-eqb r4 0 (y .decaps) and tt),
+      );
   agrees = λ ready within. agreed sets a s z seed pk sk ct ss m t r1 r2 r3 r4 _ _ _ _ _ _ ready calls within;
 }

@@ -14,14 +14,6 @@ encrypt-with-requires c κs =
       secretLong = search needs;
     }
 
-returns : tie.Need-returns
-returns c =
-    let again = c .before .before .before .before in
-    let kr = again .before .before .before .before .before .before .before in
-    let message = kr .before .before .before .before .before .before in
-    again-steps _ _ _ (search first-part) (search mid-part) (search mid-part) (message .decrypt-with .ensures) (kr .key-and-coins .ensures)
-    (coins-part _ (kr .key-and-coins .ensures)) (again .encrypt-with .ensures)
-
 pub again-with-spec : {M : Type 1} → statement M
 again-with-spec =
     tie.close
@@ -48,4 +40,9 @@ again-with-spec =
     encrypt-with-requires
     (λ c. search needs)
     (λ c. search needs)
-    returns)
+    (λ c.
+    let again = c .before .before .before .before in
+    let kr = again .before .before .before .before .before .before .before in
+    let message = kr .before .before .before .before .before .before in
+    again-steps _ _ _ (search first-part) (search mid-part) (search mid-part) (message .decrypt-with .ensures) (kr .key-and-coins .ensures)
+    (coins-part _ (kr .key-and-coins .ensures)) (again .encrypt-with .ensures)))

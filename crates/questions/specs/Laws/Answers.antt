@@ -14,6 +14,11 @@ abbrev pub AllYes : List Question → Type 0
 AllYes [] = Unit {0}
 AllYes (q ∷ qs) = (q .0 ≡ true) × AllYes qs
 
+-- the yes of one question, and those of the later ones
+infixr 5 _and_
+pub _and_ : {A B : Type 0} → A → B → A × B
+x and y = (x, y)
+
 -- no question has the number 0
 abbrev pub numbered : List Question → Bool
 numbered [] = true

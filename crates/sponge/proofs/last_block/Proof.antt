@@ -9,15 +9,6 @@ use Rattle.sponge.specs.Laws.Sponge.{pad-one, pad-more}
 use Rattle.sponge.proofs.last_block.Statement.{statement}
 use Rattle.sponge.proofs.last_block.Tie as tie
 
-returns : tie.Need-returns
-returns c =
-    let a = c .before .before .before .args in
-    let s = now (a .s) in
-    let z = 200 - a .rate in
-    let e : 200 - length s ≡ suc z = omega arith in
-    let q : a .rate - length s ≡ 1 = omega arith in
-    rw (c .before .block-of .ensures, e, q) (pad-one s (a .domain) z)
-
 returns-2 : tie.Need-returns-2
 returns-2 c =
     let a = c .before .before .before .args in
@@ -40,5 +31,11 @@ last-block-spec =
     (λ c. search needs)
     (λ c. search needs)
     (λ c. search needs)
-    returns
+    (λ c.
+    let a = c .before .before .before .args in
+    let s = now (a .s) in
+    let z = 200 - a .rate in
+    let e : 200 - length s ≡ suc z = omega arith in
+    let q : a .rate - length s ≡ 1 = omega arith in
+    rw (c .before .block-of .ensures, e, q) (pad-one s (a .domain) z))
     returns-2)

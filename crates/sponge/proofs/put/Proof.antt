@@ -10,42 +10,12 @@ use Rattle.sponge.specs.Laws.Sponge.{lane-more}
 use Rattle.sponge.proofs.put.Statement.{statement}
 use Rattle.sponge.proofs.put.Tie as tie
 
-abbrev Inv-loop : tie.InvT-loop
-Inv-loop output₀ a k₀ output k = Filled (length output₀) output (8 * k) (byteAt a)
-
-abbrev μ-loop : tie.MeasureT-loop
-μ-loop output₀ a k₀ output k = length output₀ / 8 - k
-
-loop-again : tie.Need-loop-again Inv-loop μ-loop
-loop-again c =
-    let b = c .before .before .before .before .before .before in
-    let l = b .loop in
-    let e : 8 * (l .k + 1) ≡ 8 * l .k + 8 = omega arith in
-    rw e
-    (lane-more (b .before .before .args .t1) (l .k) (omega arith) (omega arith) (omega (arith, l .inv .size)) (l .inv)
-    (c .before .before .store .ensures))
-
-same-length : tie.Need-same-length Inv-loop μ-loop
-same-length c =
-    let b = c .before .before .before .before .before .before in
-    let l = b .loop in
-    lane-more (b .before .before .args .t1) (l .k) (omega arith) (omega (arith, l .inv .size)) (omega (arith, l .inv .size)) (l .inv)
-    (c .before .before .store2 .ensures) .size
-
-returns : tie.Need-returns Inv-loop μ-loop
-returns c =
-    let b = c .before .before .before .before .before .before in
-    let l = b .loop in
-    fill-all (omega (arith, l .inv .size))
-    (lane-more (b .before .before .args .t1) (l .k) (omega arith) (omega (arith, l .inv .size)) (omega (arith, l .inv .size)) (l .inv)
-    (c .before .before .store2 .ensures))
-
 pub put-spec : {M : Type 1} → statement M
 put-spec =
     tie.close
     (tie.spec
-    Inv-loop
-    μ-loop
+    (λ output₀ a k₀ output k. Filled (length output₀) output (8 * k) (byteAt a))
+    (λ output₀ a k₀ output k. length output₀ / 8 - k)
     (λ c. fill-none refl)
     (λ c. search needs)
     (λ c. search needs)
@@ -60,7 +30,13 @@ put-spec =
     (λ c κs. simp (length-take, length-drop) (omega arith))
     (λ c. search needs)
     (λ c. search needs)
-    loop-again
+    (λ c.
+    let b = c .before .before .before .before .before .before in
+    let l = b .loop in
+    let e : 8 * (l .k + 1) ≡ 8 * l .k + 8 = omega arith in
+    rw e
+    (lane-more (b .before .before .args .t1) (l .k) (omega arith) (omega arith) (omega (arith, l .inv .size)) (l .inv)
+    (c .before .before .store .ensures)))
     (λ c. search needs)
     (λ c. search needs)
     (λ c. search needs)
@@ -70,5 +46,14 @@ put-spec =
     (λ c. search needs)
     (λ c. search needs)
     (λ c κs. simp (length-take, length-drop) (omega arith))
-    same-length
-    returns)
+    (λ c.
+    let b = c .before .before .before .before .before .before in
+    let l = b .loop in
+    lane-more (b .before .before .args .t1) (l .k) (omega arith) (omega (arith, l .inv .size)) (omega (arith, l .inv .size)) (l .inv)
+    (c .before .before .store2 .ensures) .size)
+    (λ c.
+    let b = c .before .before .before .before .before .before in
+    let l = b .loop in
+    fill-all (omega (arith, l .inv .size))
+    (lane-more (b .before .before .args .t1) (l .k) (omega arith) (omega (arith, l .inv .size)) (omega (arith, l .inv .size)) (l .inv)
+    (c .before .before .store2 .ensures))))

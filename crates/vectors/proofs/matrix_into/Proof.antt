@@ -33,13 +33,6 @@ loop-again c =
     (c .before .before .before .before .inner .ensures) (c .before .before .reduce .ensures))
     (written-part _ (k .loop .inv) (omega arith) (omega (arith, s .pre .room)) (c .before .before .reduce .kept .1 .1 .0))
 
-mul-inner : tie.Need-mul-inner Inv-loop μ-loop
-mul-inner c =
-    let k = c .before in
-    let s = k .before .before .before .before .before .before in
-    let r = row-room (s .args .transposed) (s .args .l) (k .loop .i) (k .before .before .stride .ensures) (k .before .stride2 .ensures) (s .pre) in
-    omega (arith, r (omega arith) .first 0 (omega arith))
-
 reduce-requires : tie.Need-reduce-requires Inv-loop μ-loop
 reduce-requires c κs =
     let s = c .before .before .before .before .before .before .before .before .before in
@@ -64,7 +57,11 @@ matrix-into-spec =
     loop-holds
     (λ c. search needs)
     (λ c. search needs)
-    mul-inner
+    (λ c.
+    let k = c .before in
+    let s = k .before .before .before .before .before .before in
+    let r = row-room (s .args .transposed) (s .args .l) (k .loop .i) (k .before .before .stride .ensures) (k .before .stride2 .ensures) (s .pre) in
+    omega (arith, r (omega arith) .first 0 (omega arith)))
     (λ c κs. search row-room)
     (λ c. search needs)
     (λ c. search needs)
