@@ -16,7 +16,8 @@ use Rattle.pke.specs.Pke.{decrypted}
 use Rattle.pke.specs.Promises.{Decrypted}
 use Rattle.keys.specs.Keys.{publicKey, secretKey, plainPart}
 use Rattle.keys.specs.Promises.{Generated}
-use Rattle.kem.specs.Kem.{messageOf, coinsOf, encapsCiphertext, encapsSecret, decapsSecret}
+use Rattle.kdf.specs.Kdf.{messageOf, coinsOf}
+use Rattle.kem.specs.Kem.{encapsCiphertext, encapsSecret, decapsSecret}
 use Rattle.kem.specs.Promises.{Encapsulated, Decapsulated}
 use Rattle.noise.specs.Noise.{Within, noise}
 use Rattle.correctness.specs.declared.SetNumbers.{SetNumbers}

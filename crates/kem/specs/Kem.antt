@@ -1,31 +1,13 @@
 -- Document 01, "Steps": encapsulation ("sealing") and decapsulation ("unsealing"), of the set whose row in the table is p. The capsule is the ciphertext.
 use Prim.Native.Nat.{ℕ}
 use mathlib.Core.Bool.{cond}
-use mathlib.Core.List.{List, _++_}
-use lib.ListN.{take, drop}
+use mathlib.Core.List.{List}
 use Rattle.lists.specs.Strings.{same}
 use Rattle.sets.specs.declared.Params.{Params}
-use Rattle.sha3.specs.Hashes.{sha3-256, sha3-512}
+use Rattle.sha3.specs.Hashes.{sha3-256}
+use Rattle.kdf.specs.Kdf.{keyOf, coinsOf, sharedSecret, rejectedSecret, messageOf}
 use Rattle.pke.specs.Pke.{encrypted, decrypted}
 use Rattle.keys.specs.Keys.{plainPart, keyPart, hashPart, zPart}
-
--- SHA3-512 of m and the hash of the public key: k is the first half, r, the coins of encryption, the second
-abbrev pub keyOf : List ℕ → List ℕ → List ℕ
-keyOf m hash = take 32 (sha3-512 (m ++ hash))
-
-abbrev pub coinsOf : List ℕ → List ℕ → List ℕ
-coinsOf m hash = drop 32 (sha3-512 (m ++ hash))
-
--- the secret of a ciphertext that is accepted, and of one that is rejected
-abbrev pub sharedSecret : List ℕ → List ℕ → List ℕ
-sharedSecret k ct = sha3-256 (k ++ sha3-256 ct)
-
-abbrev pub rejectedSecret : List ℕ → List ℕ → List ℕ
-rejectedSecret k z = sha3-256 (k ++ z)
-
--- m of the caller's 32 bytes, the "sealed message"
-abbrev pub messageOf : List ℕ → List ℕ
-messageOf seed = sha3-256 seed
 
 module _ (p : Params) where
   -- encapsulation to a public key: the ciphertext and the shared secret

@@ -1,55 +1,11 @@
 // Encapsulation and decapsulation: document 01's sealing and unsealing, with the capsule as the ciphertext.
-ghost use mathlib.Core.Bool.{cond};
-ghost use mathlib.Core.List.{_++_};
 ghost use mathlib.Core.Path.{_≡_};
 ghost use lib.ListN.{length};
-ghost use Rattle.sha3.specs.Hashes.{sha3-256, sha3-512};
-ghost use Rattle.kem.specs.Kem.{sharedSecret, rejectedSecret, decapsSecret};
+ghost use Rattle.kem.specs.Kem.{decapsSecret};
 ghost use Rattle.kem.specs.Promises.{Encapsulated, Decapsulated};
 ghost use Rattle.kem.specs.Rooms.{EncapsSpace, Encapsulation, AgainSpace, MadeAgain, DecapsSpace};
 use sets::Params;
 use sets::set_params;
-
-// SHA3-512 of m and the hash of the public key: k, and then r, the coins of encryption.
-fn key_and_coins(message: &[u8; 32], hash: &[u8]) -> [u8; 64]
-    requires { ⌜ length (now hash) ≡ 32 ⌝ }
-    ensures { λ r. ⌜ r ≡ sha3-512 (now (message .entry) ++ now (hash .entry)) ⌝ }
-{
-    let mut input = [0u8; 64];
-    lists::join(message, hash, &mut input);
-    sha3::hash512(&input)
-}
-
-// SHA3-256 of k followed by 32 bytes more, the last step to either secret.
-fn last_hash(k: &[u8], rest: &[u8]) -> [u8; 32]
-    requires { ⌜ (length (now k) ≡ 32) × (length (now rest) ≡ 32) ⌝ }
-    ensures { λ r. ⌜ r ≡ sha3-256 (now (k .entry) ++ now (rest .entry)) ⌝ }
-{
-    let mut input = [0u8; 64];
-    lists::join(k, rest, &mut input);
-    sha3::hash256(&input)
-}
-
-// The shared secret of a ciphertext.
-fn shared_secret(k: &[u8], ciphertext: &[u8]) -> [u8; 32]
-    requires { ⌜ length (now k) ≡ 32 ⌝ }
-    ensures { λ r. ⌜ r ≡ sharedSecret (now (k .entry)) (now (ciphertext .entry)) ⌝ }
-{
-    let hash = sha3::hash256(ciphertext);
-    last_hash(k, &hash)
-}
-
-// The shared secret where the ciphertext was made again, else the rejected secret.
-fn chosen_secret(equal: bool, k: &[u8], ciphertext: &[u8], z: &[u8]) -> [u8; 32]
-    requires { ⌜ (length (now k) ≡ 32) × (length (now z) ≡ 32) ⌝ }
-    ensures { λ r. ⌜ r ≡ cond equal (sharedSecret (now (k .entry)) (now (ciphertext .entry))) (rejectedSecret (now (k .entry)) (now (z .entry))) ⌝ }
-{
-    if equal {
-        shared_secret(k, ciphertext)
-    } else {
-        last_hash(k, z)
-    }
-}
 
 // Encapsulates at arguments of the set's lengths; the caller lends the place for the secret.
 fn encaps_with(
@@ -65,9 +21,9 @@ fn encaps_with(
 {
     let message = sha3::hash256(seed);
     let hash = sha3::hash256(public_key);
-    let kr = key_and_coins(&message, &hash);
+    let kr = kdf::key_and_coins(&message, &hash);
     pke::encrypt_with(p, public_key, &message, &kr[32..64], secret, ciphertext);
-    let shared = shared_secret(&kr[0..32], ciphertext);
+    let shared = kdf::shared_secret(&kr[0..32], ciphertext);
     lists::copy_at(&shared, output, 0);
 }
 
@@ -87,7 +43,7 @@ fn again_with(
     let c = b + 32;
     let mut message = [0u8; 32];
     pke::decrypt_with(p, &secret_key[0..a], ciphertext, secret, &mut message);
-    let kr = key_and_coins(&message, &secret_key[b..c]);
+    let kr = kdf::key_and_coins(&message, &secret_key[b..c]);
     pke::encrypt_with(p, &secret_key[a..b], &message, &kr[32..64], secret, again);
     kr
 }
@@ -106,7 +62,7 @@ fn decaps_with(
 {
     let kr = again_with(p, secret_key, ciphertext, secret, again);
     let z = 416 * p.l + p.pk + 32;
-    let chosen = chosen_secret(
+    let chosen = kdf::chosen_secret(
         lists::same(again, ciphertext),
         &kr[0..32],
         ciphertext,

@@ -14,7 +14,8 @@ use Rattle.sha3.specs.Hashes.{shake128, sha3-256}
 use Rattle.pke.specs.Pke.{decrypted}
 use Rattle.keys.specs.Keys.{publicKey, plainSecret, secretKey, plainPart}
 use Rattle.keys.specs.Laws.Parts.{plain-in, key-in, hash-in}
-use Rattle.kem.specs.Kem.{coinsOf, messageOf, encapsCiphertext, encapsSecret, decapsSecret}
+use Rattle.kdf.specs.Kdf.{coinsOf, messageOf}
+use Rattle.kem.specs.Kem.{encapsCiphertext, encapsSecret, decapsSecret}
 use Rattle.noise.specs.Laws.Theorem.{fits}
 use Rattle.correctness.specs.Claim.{seedsNoise, seedsCiphertext, NoiseWithin, Returned}
 use Rattle.correctness.specs.Laws.Decryption.{decrypts}

@@ -1,7 +1,8 @@
 -- `kem::again_with` meets its contract: the steps of the definition, one after another, on the parts of the secret key.
 use borrow.Author.Needs.{needs}
 use Rattle.lists.specs.Laws.Parts.{first-part, mid-part}
-use Rattle.kem.specs.Laws.Kem.{coins-part, again-steps}
+use Rattle.kdf.specs.Laws.Kdf.{coins-part}
+use Rattle.kem.specs.Laws.Kem.{again-steps}
 use Rattle.kem.proofs.again_with.Statement.{statement}
 use Rattle.kem.proofs.again_with.Tie as tie
 

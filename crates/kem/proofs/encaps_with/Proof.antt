@@ -1,7 +1,8 @@
 -- `kem::encaps_with` meets its contract: the steps of the definition, one after another.
 use mathlib.Core.Path.{refl}
 use borrow.Author.Needs.{needs}
-use Rattle.kem.specs.Laws.Kem.{coins-part, encaps-steps}
+use Rattle.kdf.specs.Laws.Kdf.{coins-part}
+use Rattle.kem.specs.Laws.Kem.{encaps-steps}
 use Rattle.kem.proofs.encaps_with.Statement.{statement}
 use Rattle.kem.proofs.encaps_with.Tie as tie
 

@@ -1,11 +1,10 @@
 -- Laws of the key encapsulation: the steps of each function, which together are its definition, and what a call then promises.
 use Prim.Native.Nat.{ℕ, _*_}
-use mathlib.Core.Bool.{Bool, true, false, cond}
+use mathlib.Core.Bool.{Bool, cond}
 use mathlib.Core.List.{List, _++_}
 use mathlib.Core.Path.{_≡_, sym, ap, _∙_}
 use lib.ListN.{length, take, drop}
 use Rattle.lists.specs.Strings.{same, placed}
-use Rattle.lists.specs.Laws.Parts.{last-part}
 use Rattle.lists.specs.Laws.Strings.{placed-whole}
 use Rattle.questions.specs.Answers.{earliest}
 use Rattle.sets.specs.declared.Params.{Params}
@@ -16,24 +15,15 @@ use Rattle.sponge.specs.Laws.Sponge.{length-sponge}
 use Rattle.sha3.specs.Hashes.{sha3-256, sha3-512}
 use Rattle.pke.specs.Pke.{encrypted, decrypted}
 use Rattle.keys.specs.Keys.{plainPart, keyPart, hashPart, zPart}
-use Rattle.kem.specs.Kem.{sharedSecret, rejectedSecret, encapsCiphertext, encapsSecret, decapsSecret}
+use Rattle.kdf.specs.Kdf.{sharedSecret, rejectedSecret}
+use Rattle.kdf.specs.Laws.Kdf.{length-chosen}
+use Rattle.kem.specs.Kem.{encapsCiphertext, encapsSecret, decapsSecret}
 use Rattle.kem.specs.Promises.{Encapsulated, Decapsulated}
 use Rattle.kem.specs.Rooms.{Encapsulation, MadeAgain, DecapsSpace}
-
--- r, the part from 32 to 64
-pub coins-part : (input : List ℕ) {kr : List ℕ} → kr ≡ sha3-512 input → take 32 (drop 32 kr) ≡ drop 32 kr
-coins-part input {kr} e = last-part 32 64 kr (ap length e ∙ length-sponge 72 6 input 64)
 
 -- a string of 32 bytes written over the whole of an output
 over : (h out : List ℕ) {out' : List ℕ} → length out ≡ 32 → length h ≡ 32 → out' ≡ placed 0 h out → out' ≡ h
 over h out l k w = w ∙ placed-whole h out (l ∙ sym k)
-
-length-chosen : (b : Bool) (x y : List ℕ) → length (cond b (sha3-256 x) (sha3-256 y)) ≡ 32
-length-chosen true x y = length-sponge 136 6 x 32
-length-chosen false x y = length-sponge 136 6 y 32
-
-pub choose : {b equal : Bool} (x y : List ℕ) {out : List ℕ} → equal ≡ b → out ≡ cond b x y → out ≡ cond equal x y
-choose x y e h = rw e h
 
 pub encaps-steps :
     (p : Params) (pk seed ss : List ℕ) {m h kr coins k ct s ss' : List ℕ} → length ss ≡ 32 → m ≡ sha3-256 seed → h ≡ sha3-256 pk →

@@ -1,7 +1,7 @@
--- `kem::key_and_coins` meets its contract: the hash is that of the two strings joined.
+-- `kdf::key_and_coins` meets its contract: the hash is that of the two strings joined.
 use borrow.Author.Needs.{needs}
-use Rattle.kem.proofs.key_and_coins.Statement.{statement}
-use Rattle.kem.proofs.key_and_coins.Tie as tie
+use Rattle.kdf.proofs.key_and_coins.Statement.{statement}
+use Rattle.kdf.proofs.key_and_coins.Tie as tie
 
 pub key-and-coins-spec : {M : Type 1} → statement M
 key-and-coins-spec =

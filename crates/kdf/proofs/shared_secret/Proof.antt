@@ -1,7 +1,7 @@
--- `kem::shared_secret` meets its contract: the last hash takes in that of the ciphertext.
+-- `kdf::shared_secret` meets its contract: the last hash takes in that of the ciphertext.
 use borrow.Author.Needs.{needs}
-use Rattle.kem.proofs.shared_secret.Statement.{statement}
-use Rattle.kem.proofs.shared_secret.Tie as tie
+use Rattle.kdf.proofs.shared_secret.Statement.{statement}
+use Rattle.kdf.proofs.shared_secret.Tie as tie
 
 pub shared-secret-spec : {M : Type 1} → statement M
 shared-secret-spec =

@@ -1,7 +1,7 @@
--- `kem::last_hash` meets its contract: the hash is that of the two strings joined.
+-- `kdf::last_hash` meets its contract: the hash is that of the two strings joined.
 use borrow.Author.Needs.{needs}
-use Rattle.kem.proofs.last_hash.Statement.{statement}
-use Rattle.kem.proofs.last_hash.Tie as tie
+use Rattle.kdf.proofs.last_hash.Statement.{statement}
+use Rattle.kdf.proofs.last_hash.Tie as tie
 
 pub last-hash-spec : {M : Type 1} → statement M
 last-hash-spec =
