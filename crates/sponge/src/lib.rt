@@ -85,7 +85,7 @@ fn absorb(message: &[u8], rate: usize, domain: u8) -> [[u64; 5]; 5]
 }
 
 // The first bytes of a state: whole lanes, and what is left of one.
-fn put(a: [[u64; 5]; 5], output: &mut [u8])
+fn state_into(a: [[u64; 5]; 5], output: &mut [u8])
     requires { ⌜ length (now output) < 200 ⌝ }
     ensures { λ _. ⌜ now (output .exit) ≡ from (length (now (output .entry))) (byteAt a) ⌝ }
 {
@@ -114,7 +114,7 @@ fn squeeze(start: [[u64; 5]; 5], rate: usize, output: &mut [u8])
         let next = keccak::permute(a);
         a = next;
         let end = at + least(rate, output.len() - at);
-        put(a, &mut output[at..end]);
+        state_into(a, &mut output[at..end]);
         at = end;
     }
 }

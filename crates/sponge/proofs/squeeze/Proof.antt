@@ -36,7 +36,7 @@ loop-again c =
     let now = l .inv .1 (omega (arith, l .inv .0 .size)) in
     let state = p .permute .ensures ∙ now .1 in
     let pos : 0 < r = omega arith in (
-      fill-part (omega arith) (omega (arith, l .inv .0 .size, n .ensures)) (l .inv .0) (c .before .before .put .ensures)
+      fill-part (omega arith) (omega (arith, l .inv .0 .size, n .ensures)) (l .inv .0) (c .before .before .state-into .ensures)
           (λ i h. ap (λ (a : State). byteAt a i) state ∙ squeeze-at r (l .at) pos (now .0) _ i (omega (arith, n .ensures))),
       λ h.
           let e : l .at + n .result ≡ l .at + r = omega (arith, n .ensures, l .inv .0 .size) in

@@ -1,4 +1,4 @@
--- `sponge::put` meets its contract. The loop's invariant: the first k lanes are written.
+-- `sponge::state_into` meets its contract. The loop's invariant: the first k lanes are written.
 use mathlib.Core.Path.{_≡_, refl}
 use Prim.Native.Nat.{_+_, _-_, _*_, _/_}
 use native.Mathlib.Omega.{arith}
@@ -7,11 +7,11 @@ use lib.ListN.{length, length-take, length-drop}
 use Rattle.lists.specs.Laws.Fill.{Filled, fill-none, fill-all}
 use Rattle.sponge.specs.Sponge.{byteAt}
 use Rattle.sponge.specs.Laws.Sponge.{lane-more}
-use Rattle.sponge.proofs.put.Statement.{statement}
-use Rattle.sponge.proofs.put.Tie as tie
+use Rattle.sponge.proofs.state_into.Statement.{statement}
+use Rattle.sponge.proofs.state_into.Tie as tie
 
-pub put-spec : {M : Type 1} → statement M
-put-spec =
+pub state-into-spec : {M : Type 1} → statement M
+state-into-spec =
     tie.close
     (tie.spec
     (λ output₀ a k₀ output k. Filled (length output₀) output (8 * k) (byteAt a))
