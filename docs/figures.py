@@ -1,7 +1,7 @@
 #!/usr/bin/env python3
 """figures.py LOG [ROOT]: the repository's figures by crate, for docs/PROOFS.md.
 
-Lines of code, of definitions, of rooms (what inner functions ask of lengths), of laws and of proofs, neither blank nor
+Lines of code, of definitions, of rooms (what inner functions ask and give), of laws and of proofs, neither blank nor
 comment nor import; the wrong programs that the check must refuse; and the seconds that the check took, from LOG, what
 `rt ci` printed. tests/definitions.py says which file of specs/ is what."""
 import pathlib

@@ -168,7 +168,7 @@ def plain_inner(u, v):
 
 
 def small_noise():
-    """The noise in figures, where n = 4 and l = 2. The theorem noise/Example has the same figures."""
+    """The noise in figures, where n = 4 and l = 2. The theorem noise/Laws/Example has the same figures."""
     A = [[[3168, 1, 3400, 2], [4095, 3144, 5, 6450]], [[7776, 2581, 8190, 0], [8191, 7627, 5593, 4096]]]
     s, s1 = [[-5, 5, 3, 2], [0, 2, -4, -4]], [[-1, 2, -4, 5], [0, 0, -5, -2]]
     exact = [[17032, 57341, -33437, -1719], [-14340, 40533, 13954, -66689]]

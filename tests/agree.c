@@ -1,5 +1,5 @@
 // agree ROUNDS: random keys, ciphertexts and secrets of every set through the C interface, against the plain
-// implementation (oracle/plain.c). A round makes keys, seals, and unseals the ciphertext, one with a bit turned, one
+// implementation (oracle/plain.c). A round makes keys, encapsulates, and decapsulates the ciphertext, one with a bit turned, one
 // of random bytes, and the ciphertext with a secret key with a bit turned. It stops at the first difference with a
 // line that sabercall can repeat.
 #include "sets.h"
@@ -51,8 +51,8 @@ static void differ(const char *call, int set, const struct part *parts, int coun
     differ(call, set, (const struct part[]){__VA_ARGS__}, \
            sizeof((const struct part[]){__VA_ARGS__}) / sizeof(struct part))
 
-// Unseals with the first secret key and the first ciphertext.
-static void unseal(int set) {
+// Decapsulates with the first secret key and the first ciphertext.
+static void decapsulate(int set) {
     size_t sk = sets[set].secret_key, ct = sets[set].ciphertext;
     uint8_t answer = saber_decaps(set, secret_key[0], sk, ciphertext[0], ct, opened[0], 32);
     plain_decaps(set, secret_key[0], ciphertext[0], opened[1]);
@@ -74,16 +74,16 @@ static void round_of(int set) {
     if (answer != SABER_OK || memcmp(ciphertext[0], ciphertext[1], ct) != 0 || memcmp(sent[0], sent[1], 32) != 0)
         DIFFER("encaps", set, {public_key[0], pk}, {seeds[3], 32}, {blank, ct}, {blank, 32});
 
-    unseal(set);
-    if (memcmp(sent[0], opened[0], 32) != 0) // not what encaps sealed
+    decapsulate(set);
+    if (memcmp(sent[0], opened[0], 32) != 0) // not what encaps sent
         DIFFER("decaps", set, {secret_key[0], sk}, {ciphertext[0], ct}, {blank, 32});
     turn_bit(ciphertext[0], ct);
-    unseal(set);
+    decapsulate(set);
     random_bytes(ciphertext[0], ct);
-    unseal(set);
+    decapsulate(set);
     memcpy(ciphertext[0], ciphertext[1], ct);
     turn_bit(secret_key[0], sk);
-    unseal(set);
+    decapsulate(set);
 }
 
 int main(int count, char **words) {

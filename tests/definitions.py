@@ -2,7 +2,7 @@
 
     python3 tests/definitions.py [ROOT]
 
-Of the files of crates/*/specs, `Lib` and `Laws` only name others, `Rooms` holds what inner functions ask of lengths,
+Of the files of crates/*/specs, `Lib` and `Laws` only name others, `Rooms` holds what inner functions ask and give,
 the files below Laws/ are laws, and the rest are definitions. Checked is:
 
 - a file of definitions cites files of definitions alone; a contract and a file of rooms cite `Rooms` too;

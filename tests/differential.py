@@ -33,7 +33,7 @@ WAYS = ("sound", "damaged", "any content", "odd lengths", "odd number", "mixed")
 
 
 def keys_of(draw, set):
-    """Keys of a set by their names, with a ciphertext sealed to them."""
+    """Keys of a set by their names, with a ciphertext encapsulated to them."""
     public_key, secret_key = saber.keygen(set, *(draw.randbytes(32) for _ in range(3)))
     ciphertext, _ = saber.encaps(set, public_key, draw.randbytes(32))
     plain_secret = secret_key[: set.plain_secret]

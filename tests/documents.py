@@ -38,7 +38,8 @@ def cited(text):
         for name in re.findall(r"\w+", names):
             yield f"{crate} {name}", (CRATES[crate] / "must-fail" / f"{name}.edit").is_file()
     for name in PATHS.findall(text):
-        yield name, any(ROOT.glob(name.rstrip("/")))
+        if not (SPECS.match(f"`{name}`") or PROOFS.match(f"`{name}`")):
+            yield name, any(ROOT.glob(name.rstrip("/")))
 
 
 def main():

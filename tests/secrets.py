@@ -34,7 +34,7 @@ LISTED = {
     ("jump", "saber_pack"): (1, Q8),
     ("jump", "saber_poly_mul"): (3, Q8),
     ("jump", "saber_recon_data"): (1, Q8),
-    ("jump", "saber_recover"): (3, Q8),
+    ("jump", "saber_recover"): (2, Q8),
     ("jump", "saber_round"): (1, Q8),
     ("jump", "control_jump"): (1, CONTROL),
     ("address", "control_address"): (1, CONTROL),

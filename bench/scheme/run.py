@@ -22,7 +22,8 @@ import saber
 
 JAR = pathlib.Path("/usr/share/java/bcprov.jar")
 CALLS = ("keygen", "encaps", "decaps")
-MATRIX, KECCAK = "ring::matrix_into", "keccak::permute"  # as callgrind names them: matrix times vector, Keccak-f
+# As callgrind names them: Keccak-f, and the functions that the products stand in.
+KECCAK, PRODUCTS = "keccak::permute", ("exchange::vector_into", "exchange::inner_into")
 ROWS = [(number, call) for number in saber.SETS for call in CALLS]
 
 # Document 000, section 5: cycles of a 2.6 GHz processor.
@@ -82,13 +83,10 @@ def counted(work, program):
 
 
 def shares(counts, number, call):
-    """The parts of Keccak-f and of the products. In keygen the matrix's products stand in a function of their own,
-    which gives the price of one; encaps has l more of them than keygen, and decaps 2 l more."""
-    rank = saber.SETS[number].l
-    one = counts[number, "keygen"][MATRIX] / rank**2
-    products = rank**2 + rank * CALLS.index(call)
+    """The parts of Keccak-f and of the products, the latter with the unpacking, rounding and packing about them, which
+    the compiler puts in line."""
     row = counts[number, call]
-    return row[KECCAK] / row["TOTALS"], one * products / row["TOTALS"]
+    return row[KECCAK] / row["TOTALS"], sum(row.get(name, 0) for name in PRODUCTS) / row["TOTALS"]
 
 
 def title(number, call):

@@ -57,7 +57,8 @@ fn decaps_with(
     again: &mut [u8],
     output: &mut [u8],
 )
-    requires { ⌜ DecapsSpace p (length (now «secret_key»)) (length (now ciphertext)) (length (now secret)) (length (now again)) (length (now output)) ⌝ }
+    requires { ⌜ DecapsSpace p (length (now «secret_key»)) (length (now ciphertext)) (length (now secret))
+        (length (now again)) (length (now output)) ⌝ }
     ensures { λ _. ⌜ now (output .exit) ≡ decapsSecret p (now («secret_key» .entry)) (now (ciphertext .entry)) ⌝ }
 {
     let kr = again_with(p, secret_key, ciphertext, secret, again);

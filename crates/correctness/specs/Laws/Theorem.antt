@@ -118,8 +118,8 @@ module _
   accepts = record { keygen = keygen-accepts; encaps = encaps-accepts; decrypt = decrypt-accepts; decaps = decaps-accepts }
 
   -- demand 3
-  pub agreed : NoiseWithin p matrixSeed secretSeed seed → Agreed seed ss' message' secret'
-  agreed within =
+  pub agrees : NoiseWithin p matrixSeed secretSeed seed → Agreed seed ss' message' secret'
+  agrees within =
       let back = returned set known matrixSeed secretSeed z seed within in
       record {
         message = taken _ message decrypt-accepts (decryption .writes) ∙ rw (sk-is, ct-is) (back .message);
@@ -163,5 +163,5 @@ trip sets a s z seed pk sk ct ss m t {r1} {r2} {r3} {r4} {r} calls e = record {
         e ∙ none-no (refusals r1 r2 r3 r4)
             (eq-eqb r1 0 (y .keygen) and eq-eqb r2 0 (y .encaps) and eq-eqb r3 0 (y .decrypt) and eq-eqb r4 0 (y .decaps) and tt),
       );
-  agrees = λ ready within. agreed sets a s z seed pk sk ct ss m t r1 r2 r3 r4 _ _ _ _ _ _ ready calls within;
+  agrees = λ ready within. agrees sets a s z seed pk sk ct ss m t r1 r2 r3 r4 _ _ _ _ _ _ ready calls within;
 }

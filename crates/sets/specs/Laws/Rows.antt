@@ -36,7 +36,7 @@ pub row : (set : ℕ) → known set ≡ true → Row (paramsOf set)
 unfolding trailingZeros
 row = each-row Row (search needs) (search needs) (search needs)
 
--- of no set too: what the code computes before Q1 is asked
+-- bounds that hold of no set too
 pub few-rows : (set : ℕ) {p : Params} → p ≡ paramsOf set → p .l ≤ 4
 few-rows set is = rw is (every-row (λ p. p .l ≤ 4) (omega arith) (omega arith) (omega arith) (omega arith) set)
 
