@@ -153,37 +153,7 @@ fn print_answer(
     print_output(row.list_outputs > 0, front(spare, n), text);
 }
 
-// Makes a call and prints its answer. A list is the front of its buffer.
-fn answer_with(
-    call: Call,
-    row: Row,
-    a: Arguments,
-    bytes: &[u8],
-    left: &[u16],
-    right: &[u16],
-    output: &mut [u8],
-    extra: &mut [u8],
-    result: &mut [u16],
-    spare: &mut Bytes,
-    text: &mut Text,
-) {
-    let ends = a.ends;
-    let answer = calls::make_call(
-        call,
-        a.number,
-        part(bytes, ends, 0),
-        part(bytes, ends, 1),
-        part(bytes, ends, 2),
-        list_front(left, part(bytes, ends, 3).len() / 2),
-        list_front(right, part(bytes, ends, 4).len() / 2),
-        output,
-        extra,
-        result,
-    );
-    print_answer(row, answer, output, extra, result, spare, text);
-}
-
-// The same, where an output is the front of its buffer too.
+// Makes a call and prints its answer. A list or an output is the front of its buffer.
 fn answer_call(
     call: Call,
     row: Row,
@@ -201,16 +171,24 @@ fn answer_call(
     let o = notation::least(part(bytes, ends, 5).len(), output.len());
     let p = notation::least(part(bytes, ends, 6).len(), extra.len());
     let q = notation::least(part(bytes, ends, 7).len() / 2, result.len());
-    answer_with(
+    let answer = calls::make_call(
         call,
-        row,
-        a,
-        bytes,
-        left,
-        right,
+        a.number,
+        part(bytes, ends, 0),
+        part(bytes, ends, 1),
+        part(bytes, ends, 2),
+        list_front(left, part(bytes, ends, 3).len() / 2),
+        list_front(right, part(bytes, ends, 4).len() / 2),
         &mut output[0..o],
         &mut extra[0..p],
         &mut result[0..q],
+    );
+    print_answer(
+        row,
+        answer,
+        front(output, o),
+        front(extra, p),
+        list_front(result, q),
         spare,
         text,
     );
