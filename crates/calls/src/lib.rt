@@ -1,5 +1,7 @@
 // The library's calls by name: what each takes, and the dispatch to it.
 
+use notation::Shape;
+
 // The calls that answer with a number.
 pub enum Call {
     Keygen,
@@ -26,14 +28,10 @@ pub enum Request {
     PublicKeyOf,
 }
 
-// A request, and how many arguments of each kind it takes, in the order in which they stand.
+// A request, and what it takes.
 pub struct Row {
     pub request: Request,
-    pub numbers: usize,
-    pub strings: usize,
-    pub lists: usize,
-    pub byte_outputs: usize,
-    pub list_outputs: usize,
+    pub shape: Shape,
 }
 
 pub enum Found {
@@ -54,13 +52,16 @@ fn entry(
     list_outputs: usize,
 ) -> Found {
     if check::same(asked, name) {
-        return Found::Row(Row {
-            request: Request::Call(call),
+        let shape = Shape {
             numbers,
             strings,
             lists,
             byte_outputs,
             list_outputs,
+        };
+        return Found::Row(Row {
+            request: Request::Call(call),
+            shape,
         });
     }
     found
@@ -69,13 +70,16 @@ fn entry(
 // The same for the lookup.
 fn lookup(asked: &[u8], name: &[u8], numbers: usize, strings: usize) -> Found {
     if check::same(asked, name) {
-        return Found::Row(Row {
-            request: Request::PublicKeyOf,
+        let shape = Shape {
             numbers,
             strings,
             lists: 0,
             byte_outputs: 0,
             list_outputs: 0,
+        };
+        return Found::Row(Row {
+            request: Request::PublicKeyOf,
+            shape,
         });
     }
     Found::Nothing

@@ -13,7 +13,8 @@ abbrev pub refusals : ℕ → ℕ → ℕ → ℕ → List Question
 refusals r1 r2 r3 r4 = (eqb r1 0, r1) ∷ (eqb r2 0, r2) ∷ (eqb r3 0, r3) ∷ (eqb r4 0, r4) ∷ []
 
 pub record RoundTrip
-    (sets : SetNumbers) (matrixSeed secretSeed z seed pk sk ct ss message secret : List ℕ) (r : ℕ) (pk' sk' ct' ss' message' secret' : List ℕ) : Type 0
+    (sets : SetNumbers) (matrixSeed secretSeed z seed pk sk ct ss message secret : List ℕ) (r : ℕ)
+    (pk' sk' ct' ss' message' secret' : List ℕ) : Type 0
   where
     -- the answers of the four calls, and what the calls did, within the bounds or not
     pub r1 : ℕ

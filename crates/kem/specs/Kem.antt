@@ -1,4 +1,5 @@
--- Document 01, "Steps": encapsulation ("sealing") and decapsulation ("unsealing"), of the set whose row in the table is p. The capsule is the ciphertext.
+-- Document 01, "Steps": encapsulation ("sealing") and decapsulation ("unsealing"), of the set whose row in the table is p. The capsule is the
+-- ciphertext.
 use Prim.Native.Nat.{ℕ}
 use mathlib.Core.Bool.{cond}
 use mathlib.Core.List.{List}

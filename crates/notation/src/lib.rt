@@ -10,6 +10,15 @@ pub type List = [u16; 16384];
 
 pub type Text = [u8; 65536];
 
+// How many arguments of each kind a call takes, in the order in which they stand.
+pub struct Shape {
+    pub numbers: usize,
+    pub strings: usize,
+    pub lists: usize,
+    pub byte_outputs: usize,
+    pub list_outputs: usize,
+}
+
 // What is wrong with a line, or nothing.
 pub const SOUND: u8 = 0;
 

@@ -8,7 +8,7 @@ use native.Mathlib.Numerals.{add-one}
 use native.Mathlib.Omega.{arith}
 use lib.ListN.{length, take, drop, length-append, length-take, length-drop}
 use lib.Seq.{take-append-le, drop-append-le, drop-at, take-all}
-use Rattle.lists.specs.Laws.Parts.{Written}
+use Rattle.lists.specs.Laws.Parts.{Prefix}
 use Rattle.algebra.specs.Ring.{poly, blocks}
 
 pub length-poly : {A : Type 0} (s : List A) (i : ℕ) → length (poly s i) ≤ 256
@@ -81,7 +81,7 @@ map-blocks g zero f = refl
 map-blocks g (suc l) f = map-append g (blocks l f) (f l) ∙ ap (λ t. t ++ map g (f l)) (map-blocks g l f)
 
 -- a list written from the front, block by block
-pub written-block :
-    (w i : ℕ) (f : ℕ → List ℕ) {N : ℕ} {s y : List ℕ} → y ≡ f i → Written N s (w * i + w) (blocks i f ++ y) →
-    Written N s (w * (i + 1)) (blocks (i + 1) f)
-written-block w i f e h = rw (add-one, mul-suc w i, blocks-suc i f, ← e) h
+pub prefix-block :
+    (w i : ℕ) (f : ℕ → List ℕ) {N : ℕ} {s y : List ℕ} → y ≡ f i → Prefix N s (w * i + w) (blocks i f ++ y) →
+    Prefix N s (w * (i + 1)) (blocks (i + 1) f)
+prefix-block w i f e h = rw (add-one, mul-suc w i, blocks-suc i f, ← e) h

@@ -67,7 +67,8 @@ module _ (p : Params) (row : Row p) (fit : Fits (p .g) (p .margin) (added p)) (s
         first-back 10 (p .l) (omega arith) b′ long _ (320 * p .l) (omega arith) (vector-below false (p .l) stored s′),
         rest-back 10 (p .l) (omega arith) b′ long _ (320 * p .l) (omega arith),
         whole-back (p .bits) 1 (row .bitsSome) (dataPoly p b s′ m) (length-data p row b s′ m) (data-below p row b s′ m),
-        whole-back 13 (p .l) (omega arith) (residues 8192 s) (length-residues p row stored secretSeed stored) (λ k h. residues-below 8192 (omega arith) s k),
+        whole-back 13 (p .l) (omega arith) (residues 8192 s) (length-residues p row stored secretSeed stored)
+            (λ k h. residues-below 8192 (omega arith) s k),
         inner-secret,
       )
 

@@ -13,7 +13,9 @@ use Rattle.keys.proofs.public_key_of.Statement.{statement}
 use Rattle.keys.proofs.public_key_of.Tie as tie
 
 -- no question refuses
-asked-all : (c : tie.Else1) → earliest (lookupQuestions (c .before .before .before .args .set) (length (c .before .before .before .args .«secret-key» .now))) ≡ 0
+asked-all : (c : tie.Else1) →
+    let a = c .before .before .before .args in
+    earliest (lookupQuestions (a .set) (length (a .«secret-key» .now))) ≡ 0
 asked-all c = sym (c .before .lookup-answer .ensures) ∙ c .if1 .left
 
 -- the part lies within the secret key

@@ -10,7 +10,7 @@ use lib.ListN.{length, take, drop, length-append, length-map}
 use borrow.Author.Tests.{eqb-true}
 use borrow.Rule.Slice.PartMut.{putMid, midOf}
 use Rattle.lists.specs.Strings.{placed}
-use Rattle.lists.specs.Laws.Parts.{written-none, written-part, written-copy, written-all}
+use Rattle.lists.specs.Laws.Parts.{prefix-none, prefix-part, prefix-copy, prefix-all}
 use Rattle.questions.specs.Answers.{earliest}
 use Rattle.questions.specs.Laws.Answers.{all-yes, accepted}
 use Rattle.sets.specs.declared.Params.{Params}
@@ -36,9 +36,9 @@ pub public-steps :
     pk ≡ packed 10 (roundedVector true l (shake128 seed 32) s) ++ shake128 seed 32
 public-steps l seed old x s {stored} {pk} lo lx es ex ep =
     let ls : length stored ≡ 32 = ap length es ∙ length-sponge 168 0x1f seed 32 in
-    let first = written-part {e = 320 * l} x (written-none old) (omega arith) (omega arith) lx in
-    let both = written-copy {e = 320 * l + 32} stored first (omega arith) (omega arith) in
-    ep ∙ written-all both (omega arith) ∙ rw (ex, es)
+    let first = prefix-part {e = 320 * l} x (prefix-none old) (omega arith) (omega arith) lx in
+    let both = prefix-copy {e = 320 * l + 32} stored first (omega arith) (omega arith) in
+    ep ∙ prefix-all both (omega arith) ∙ rw (ex, es)
 
 pub secret-steps :
     (l : ℕ) (s pk z old x : List ℕ) {hash first second sk : List ℕ} → length old ≡ 416 * l + (length pk + 64) → length z ≡ 32 →
@@ -48,11 +48,11 @@ pub secret-steps :
 secret-steps l s pk z old x {hash} {sk = sk} lo lz lx ex eh e1 e2 e3 =
     let lh : length hash ≡ 32 = ap length eh ∙ length-sponge 136 6 pk 32 in
     let h : ℕ = 416 * l + length pk in
-    let plain = written-part {e = 416 * l} x (written-none old) (omega arith) (omega arith) lx in
-    let public = written-copy {e = h} pk plain refl (omega arith) in
-    let hashed = written-copy {e = h + 32} hash public (omega arith) (omega arith) in
-    let whole = written-copy {e = h + 32 + 32} z hashed (omega arith) (omega arith) in
-    let done : sk ≡ ((x ++ pk) ++ hash) ++ z = rw (e3, e2, e1) (written-all whole (omega arith)) in
+    let plain = prefix-part {e = 416 * l} x (prefix-none old) (omega arith) (omega arith) lx in
+    let public = prefix-copy {e = h} pk plain refl (omega arith) in
+    let hashed = prefix-copy {e = h + 32} hash public (omega arith) (omega arith) in
+    let whole = prefix-copy {e = h + 32 + 32} z hashed (omega arith) (omega arith) in
+    let done : sk ≡ ((x ++ pk) ++ hash) ++ z = rw (e3, e2, e1) (prefix-all whole (omega arith)) in
     done ∙ simp append-assoc (rw (ex, eh))
 
 pub keygen-steps :

@@ -8,6 +8,12 @@ use Rattle.lists.proofs.load64.Tie as tie
 pub load64-spec : {M : Type 1} → statement M
 load64-spec =
     tie.close
-    (tie.spec (λ c κs. search needs) (λ c. search needs) (λ c κs. search needs) (λ c. search needs) (λ c. search needs) (λ c.
+    (tie.spec
+    (λ c κs. search needs)
+    (λ c. search needs)
+    (λ c κs. search needs)
+    (λ c. search needs)
+    (λ c. search needs)
+    (λ c.
     let a = c .before .before .before .args in
     omega (arith, number-parts 256 4 4 (a .at) (a .bytes .now) (omega arith))))

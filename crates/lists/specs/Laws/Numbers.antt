@@ -58,8 +58,8 @@ pub number-append : (B : ℕ) (xs ys : List ℕ) → number B (xs ++ ys) ≡ num
 unfolding number
 number-append B [] ys = rw (pow-zero B) (omega arith)
 number-append B (x ∷ xs) ys =
-    rw (number-append B xs ys, pow-succ' B (length xs), mul-assoc B (B ^ length xs) (number B ys), mul-add B (number B xs) (B ^ length xs * number B ys))
-    (omega arith)
+    let n = B ^ length xs in
+    rw (number-append B xs ys, pow-succ' B (length xs), mul-assoc B n (number B ys), mul-add B (number B xs) (n * number B ys)) (omega arith)
 
 -- the m lowest digits, and then those of what stands above them
 pub digits-split : (B m k v u : ℕ) → 0 < B → digits B (m + k) (v + B ^ m * u) ≡ digits B m v ++ digits B k (v / B ^ m + u)

@@ -37,36 +37,36 @@ pub put-all : (e : ℕ) (s p : List ℕ) → length s ≤ e → take e s ≡ p �
 put-all e s p h q = sym (take-all e s h) ∙ q
 
 -- a list of N elements that is written from the front, string by string: its first n elements are p
-pub record Written (N : ℕ) (s : List ℕ) (n : ℕ) (p : List ℕ) : Type 0 where
+pub record Prefix (N : ℕ) (s : List ℕ) (n : ℕ) (p : List ℕ) : Type 0 where
   pub size : length s ≡ N
   pub within : n ≤ N
   pub front : take n s ≡ p
 
-pub written-none : (s : List ℕ) → Written (length s) s 0 []
-written-none s = record { size = refl; within = omega arith; front = refl }
+pub prefix-none : (s : List ℕ) → Prefix (length s) s 0 []
+prefix-none s = record { size = refl; within = omega arith; front = refl }
 
 -- by a call to which the part from a to e was lent
-pub written-part :
-    {N a e : ℕ} {s p : List ℕ} (y : List ℕ) → Written N s a p → a ≤ e → e ≤ N → length y ≡ length (midOf a (e - a) s) →
-    Written N (putMid a (e - a) s y) e (p ++ y)
-written-part {N} {a} {e} {s} {p} y w h l k =
+pub prefix-part :
+    {N a e : ℕ} {s p : List ℕ} (y : List ℕ) → Prefix N s a p → a ≤ e → e ≤ N → length y ≡ length (midOf a (e - a) s) →
+    Prefix N (putMid a (e - a) s y) e (p ++ y)
+prefix-part {N} {a} {e} {s} {p} y w h l k =
     let g : e ≤ length s = omega (arith, w .size) in
     record { size = put-long a e s y h g k ∙ w .size; within = l; front = put-next a e s y h g k p (w .front) }
 
 -- by a copy to place a
-pub written-copy :
-    {N a e : ℕ} {s p : List ℕ} (y : List ℕ) → Written N s a p → e ≡ a + length y → e ≤ N → Written N (placed a y s) e (p ++ y)
-written-copy {N} {a} {e} {s} {p} y w h l =
+pub prefix-copy :
+    {N a e : ℕ} {s p : List ℕ} (y : List ℕ) → Prefix N s a p → e ≡ a + length y → e ≤ N → Prefix N (placed a y s) e (p ++ y)
+prefix-copy {N} {a} {e} {s} {p} y w h l =
     let g : a + length y ≤ length s = omega (arith, w .size) in
     record { size = length-placed a y s g ∙ w .size; within = l; front = placed-next a y s g p e h (w .front) }
 
-pub written-all : {N n : ℕ} {s p : List ℕ} → Written N s n p → N ≤ n → s ≡ p
-written-all {N} {n} {s} {p} w h = put-all n s p (omega (arith, w .size)) (w .front)
+pub prefix-all : {N n : ℕ} {s p : List ℕ} → Prefix N s n p → N ≤ n → s ≡ p
+prefix-all {N} {n} {s} {p} w h = put-all n s p (omega (arith, w .size)) (w .front)
 
 -- one string in front and another behind it, which fill the whole
 pub placed-two :
     (a b out : List ℕ) {first whole : List ℕ} → length out ≡ length a + length b → first ≡ placed 0 a out → whole ≡ placed (length a) b first →
     whole ≡ a ++ b
 placed-two a b out l p q =
-    let front = written-copy {e = length a} a (written-none out) (omega arith) (omega arith) in
-    rw (q, p) (written-all (written-copy {e = length a + length b} b front refl (omega arith)) (omega arith))
+    let front = prefix-copy {e = length a} a (prefix-none out) (omega arith) (omega arith) in
+    rw (q, p) (prefix-all (prefix-copy {e = length a + length b} b front refl (omega arith)) (omega arith))

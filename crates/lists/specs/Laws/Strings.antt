@@ -59,7 +59,8 @@ module _ (at : ℕ) (s out : List ℕ) (h : at + length s ≤ length out) where
   -- where the first bytes were p, p and then s are now first
   pub placed-next : (p : List ℕ) (e : ℕ) → e ≡ at + length s → take at out ≡ p → take e (placed at s out) ≡ p ++ s
   placed-next p e k q =
-      rw (k, ← placed-paste at s out, ← q) (take-paste out at s (length s) (omega arith) (omega arith) ∙ ap (λ (t : List ℕ). take at out ++ t) (take-length s))
+      rw (k, ← placed-paste at s out, ← q)
+      (take-paste out at s (length s) (omega arith) (omega arith) ∙ ap (λ (t : List ℕ). take at out ++ t) (take-length s))
 
 -- from the front, and over the whole
 pub placed-front : (s out : List ℕ) → placed 0 s out ≡ s ++ drop (length s) out

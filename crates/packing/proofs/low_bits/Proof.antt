@@ -12,4 +12,10 @@ base : (c : tie.Start) → 1 * 2 ^ c .args .width % 2 ^ 64 ≡ 2 ^ c .args .widt
 base c = shl-exact 1 (c .args .width) 64 (omega arith) (omega arith) ∙ one-mul (2 ^ c .args .width)
 
 pub low-bits-spec : {M : Type 1} → statement M
-low-bits-spec = tie.close (tie.spec (λ c. search needs) (λ c. rw (base c) (pow-pos (c .args .width))) (λ c. record { fits = rw (base c) (lt-of-lt-of-le (mod-lt (c .args .acc) (pow-pos (c .args .width))) (pow-mono {j = 16} (c .pre))) }) (λ c. ap (λ (n : ℕ). c .args .acc % n) (base c)))
+low-bits-spec =
+    tie.close
+    (tie.spec
+    (λ c. search needs)
+    (λ c. rw (base c) (pow-pos (c .args .width)))
+    (λ c. record { fits = rw (base c) (lt-of-lt-of-le (mod-lt (c .args .acc) (pow-pos (c .args .width))) (pow-mono {j = 16} (c .pre))) })
+    (λ c. ap (λ (n : ℕ). c .args .acc % n) (base c)))

@@ -3,7 +3,7 @@ use Prim.Native.Nat.{_*_}
 use mathlib.Core.Path.{_∙_}
 use native.Mathlib.Omega.{arith}
 use borrow.Author.Needs.{needs}
-use Rattle.lists.specs.Laws.Parts.{first-part, last-part, written-none, written-part, written-all}
+use Rattle.lists.specs.Laws.Parts.{first-part, last-part, prefix-none, prefix-part, prefix-all}
 use Rattle.pke.specs.Laws.Pke.{encrypt-steps}
 use Rattle.pke.proofs.encrypt_with.Statement.{statement}
 use Rattle.pke.proofs.encrypt_with.Tie as tie
@@ -19,9 +19,11 @@ returns c =
     let x = after-vector .vector-into in
     let y = after-data .data-into in
     let n = 320 * a .p .l in
-    let first = written-part {e = n} (x .last .1 .1 .1 .1 .0) (written-none (a .ciphertext .now)) (omega arith) (omega (arith, room .ctLong)) (x .kept .1 .1 .1 .1 .0) in
-    let both = written-part {a = n} {e = a .p .ct} (y .last .1 .1 .1 .1 .0) first (omega arith) (omega (arith, room .ctLong)) (y .kept .1 .1 .1 .1 .0) in
-    written-all both (omega (arith, room .ctLong))
+    let first =
+    prefix-part {e = n} (x .last .1 .1 .1 .1 .0) (prefix-none (a .ciphertext .now)) (omega arith) (omega (arith, room .ctLong)) (x .kept .1 .1 .1 .1 .0) in
+    let both =
+    prefix-part {a = n} {e = a .p .ct} (y .last .1 .1 .1 .1 .0) first (omega arith) (omega (arith, room .ctLong)) (y .kept .1 .1 .1 .1 .0) in
+    prefix-all both (omega (arith, room .ctLong))
     ∙ encrypt-steps _ _ _ _ (search first-part) (search (last-part, room .pkLong)) (after-secret .secret-into .ensures) (x .ensures)
     (y .ensures)
 

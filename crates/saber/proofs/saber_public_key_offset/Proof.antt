@@ -7,4 +7,10 @@ use Rattle.saber.proofs.saber_public_key_offset.Tie as tie
 
 pub saber-public-key-offset-spec : {M : Type 1} → statement M
 saber-public-key-offset-spec =
-    tie.close (tie.spec (λ c κs. search needs) (λ c κs. search needs) (λ c. omega (arith, few-rows _ (c .before .before .set-params .ensures))) (λ c κs. search needs) (λ c. cc))
+    tie.close
+    (tie.spec
+    (λ c κs. search needs)
+    (λ c κs. search needs)
+    (λ c. omega (arith, few-rows _ (c .before .before .set-params .ensures)))
+    (λ c κs. search needs)
+    (λ c. cc))

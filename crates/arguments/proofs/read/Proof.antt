@@ -1,15 +1,15 @@
--- `requests::read` is safe and ends: the bytes read so far lie in their buffer.
+-- `arguments::read` is safe and ends: the bytes read so far lie in their buffer.
 use Prim.Native.Nat.{_-_, _≤_}
 use borrow.Author.Needs.{needs}
-use Rattle.requests.proofs.read.Statement.{statement}
-use Rattle.requests.proofs.read.Tie as tie
+use Rattle.arguments.proofs.read.Statement.{statement}
+use Rattle.arguments.proofs.read.Tie as tie
 
 pub read-spec : {M : Type 1} → statement M
 read-spec =
     tie.close
     (tie.spec
-    (λ row line at bytes₀ number ends₀ step₀ k₀ bytes ends step k. (k ≤ 8) × (step .value ≤ 32768))
-    (λ row line at bytes₀ number ends₀ step₀ k₀ bytes ends step k. 8 - k)
+    (λ shape line at bytes₀ number ends₀ step₀ k₀ bytes ends step k. (k ≤ 8) × (step .value ≤ 32768))
+    (λ shape line at bytes₀ number ends₀ step₀ k₀ bytes ends step k. 8 - k)
     (λ c κs. search needs)
     (λ c. search needs)
     (λ c κs. search needs)
