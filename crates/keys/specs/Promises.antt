@@ -4,7 +4,6 @@ use mathlib.Core.List.{List}
 use mathlib.Core.Path.{_≡_}
 use lib.ListN.{length}
 use Rattle.questions.specs.Answers.{earliest, written}
-use Rattle.sets.specs.declared.Params.{Params}
 use Rattle.sets.specs.Sets.{paramsOf}
 use Rattle.answers.specs.Questions.{keygenQuestions}
 use Rattle.keys.specs.Keys.{publicKey, secretKey}

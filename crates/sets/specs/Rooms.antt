@@ -1,5 +1,5 @@
 -- What functions ask of a set's row: what holds of every row of the table.
-use Prim.Native.Nat.{ℕ, _+_, _-_, _*_, _/_, _%_, _^_, _≤_, _<_}
+use Prim.Native.Nat.{_+_, _-_, _*_, _/_, _%_, _^_, _≤_, _<_}
 use mathlib.Core.Path.{_≡_}
 use lib.Count.{trailingZeros}
 use Rattle.sets.specs.declared.Params.{Params}

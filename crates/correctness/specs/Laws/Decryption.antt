@@ -26,7 +26,7 @@ use Rattle.exchange.specs.Laws.Exchange.{length-vector, vector-below}
 use Rattle.pke.specs.Pke.{dataPoly, encrypted, decrypted}
 use Rattle.pke.specs.Laws.Lengths.{length-data, data-below}
 use Rattle.keys.specs.Laws.Parts.{length-residues}
-use Rattle.noise.specs.Noise.{Fits, Carries, Within, v, v′, noise}
+use Rattle.noise.specs.Noise.{Fits, Carries, Within, v′, noise}
 use Rattle.noise.specs.Laws.Theorem.{small-noise}
 use Rattle.noise.specs.Laws.Flat.{v-flat, v′-flat}
 

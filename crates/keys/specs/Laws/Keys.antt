@@ -6,7 +6,7 @@ use mathlib.Core.Path.{_≡_, refl, sym, ap, _∙_}
 use native.Mathlib.Nat.{add-sub-cancel-left}
 use native.Mathlib.Omega.{arith}
 use lib.IntN.{ℤ}
-use lib.ListN.{length, take, drop, length-append, length-map}
+use lib.ListN.{length, take, drop}
 use borrow.Author.Tests.{eqb-true}
 use borrow.Rule.Slice.PartMut.{putMid, midOf}
 use Rattle.lists.specs.Strings.{placed}
@@ -24,7 +24,7 @@ use Rattle.packing.specs.Packing.{packed}
 use Rattle.sampling.specs.Sampling.{secret}
 use Rattle.exchange.specs.Exchange.{roundedVector}
 use Rattle.exchange.specs.Laws.Exchange.{vector-secret}
-use Rattle.keys.specs.Keys.{publicKey, plainSecret, secretKey, keyPart, lookupQuestions, publicKeyOf}
+use Rattle.keys.specs.Keys.{publicKey, plainSecret, secretKey, lookupQuestions, publicKeyOf}
 use Rattle.keys.specs.Promises.{Generated}
 use Rattle.keys.specs.Rooms.{KeyPair, Found}
 

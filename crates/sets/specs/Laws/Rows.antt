@@ -9,7 +9,7 @@ use borrow.Author.Needs.{needs}
 use borrow.Author.Tests.{ne-eqb}
 use Rattle.sets.specs.declared.Params.{Params}
 use Rattle.sets.specs.Sets.{lightSaber, saber, fireSaber, noSet, paramsOf, known}
-use Rattle.sets.specs.Rooms.{Sums, Row}
+use Rattle.sets.specs.Rooms.{Row}
 
 pub unknown-from : (n : ℕ) → 4 ≤ n → paramsOf n ≡ noSet
 unfolding paramsOf
