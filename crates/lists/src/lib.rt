@@ -89,3 +89,27 @@ pub fn store(bytes: &mut [u8], x: u64)
         i += 1;
     }
 }
+
+// Writes the n lowest bytes of a number to a place, up to eight.
+pub fn store_at(bytes: &mut [u8], at: usize, n: usize, x: u64)
+    requires { ⌜ (at + n ≤ length (now bytes)) × (n ≤ 8) ⌝ }
+    ensures { λ _. ⌜ now (bytes .exit) ≡ placed at (digits 256 n x) (now (bytes .entry)) ⌝ }
+{
+    let end = at + n;
+    store(&mut bytes[at..end], x);
+}
+
+// The number of up to eight bytes.
+pub fn load(bytes: &[u8]) -> u64
+    requires { ⌜ length (now bytes) ≤ 8 ⌝ }
+    ensures { λ r. ⌜ (r ≡ number 256 (now (bytes .entry))) × (r < 256 ^ length (now (bytes .entry))) ⌝ }
+{
+    let mut x: u64 = 0;
+    let mut i = bytes.len();
+    while i > 0 {
+        i -= 1;
+        let b = bytes[i] as u64;
+        x = b + 256 * x;
+    }
+    x
+}

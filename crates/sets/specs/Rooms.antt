@@ -3,7 +3,7 @@ use Prim.Native.Nat.{_+_, _-_, _*_, _/_, _%_, _^_, _≤_, _<_}
 use mathlib.Core.Path.{_≡_}
 use lib.Count.{trailingZeros}
 use Rattle.sets.specs.declared.Params.{Params}
-use Rattle.sets.specs.Sets.{added}
+use Rattle.sets.specs.Sets.{paramsOf, added}
 
 -- how the numbers of a row hang together
 pub record Sums (p : Params) : Type 0 where
@@ -30,3 +30,9 @@ pub record Row (p : Params) : Type 0 where
   pub pkIs : p .pk ≡ 320 * p .l + 32
   pub ctIs : p .ct ≡ 320 * p .l + 32 * p .bits
   pub sums : Sums p
+
+-- a row's number: one byte, not 0, and it means that row
+pub record Numbered (p : Params) : Type 0 where
+  pub some : 0 < p .number
+  pub byte : p .number < 256
+  pub means : paramsOf (p .number) ≡ p

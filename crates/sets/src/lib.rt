@@ -4,6 +4,8 @@ ghost use Rattle.sets.specs.Sets.{paramsOf};
 
 // The parameters of a set. An unknown set has 0 everywhere.
 pub struct Params {
+    // the set's own number, never 0
+    pub number: u32,
     // polynomials in a vector
     pub l: usize,
     // bits that make a coefficient of a secret
@@ -26,6 +28,7 @@ pub fn set_params(set: u32) -> Params
 {
     match set {
         1 => Params {
+            number: 1,
             l: 2,
             mu: 10,
             t: 4,
@@ -37,6 +40,7 @@ pub fn set_params(set: u32) -> Params
             margin: 192,
         },
         0 | 2 => Params {
+            number: 2,
             l: 3,
             mu: 8,
             t: 8,
@@ -48,6 +52,7 @@ pub fn set_params(set: u32) -> Params
             margin: 224,
         },
         3 => Params {
+            number: 3,
             l: 4,
             mu: 6,
             t: 32,
@@ -59,6 +64,7 @@ pub fn set_params(set: u32) -> Params
             margin: 248,
         },
         4..=4294967295 => Params {
+            number: 0,
             l: 0,
             mu: 0,
             t: 0,

@@ -1,5 +1,5 @@
 -- Laws of numbers and their digits, for every base.
-use Prim.Native.Nat.{ℕ, zero, suc, _+_, _*_, _/_, _%_, _^_, _<_, _≤_}
+use Prim.Native.Nat.{ℕ, zero, suc, _+_, _-_, _*_, _/_, _%_, _^_, _<_, _≤_}
 use mathlib.Core.List.{List, [], _∷_, _++_}
 use mathlib.Core.Path.{_≡_, refl, sym, ap, _∙_}
 use native.Mathlib.Omega.{arith}
@@ -93,6 +93,15 @@ pub number-next :
     (B n i : ℕ) (xs : List ℕ) → i < length xs → number B (take (suc n) (drop i xs)) ≡ getD xs i 0 + B * number B (take n (drop (suc i) xs))
 unfolding number
 number-next B n i xs h = rw (drop-cons xs i 0 h)
+
+-- one digit more below those from place i on
+pub number-more :
+    (B i : ℕ) (xs : List ℕ) {x : ℕ} → 0 < i → i ≤ length xs → x ≡ number B (drop i xs) → getD xs (i - 1) 0 + B * x ≡ number B (drop (i - 1) xs)
+unfolding number
+number-more B zero xs h l e = absurd (omega arith)
+number-more B (suc i) xs h l e =
+    let before : suc i - 1 ≡ i = omega arith in
+    rw (before, e, drop-cons xs i 0)
 
 -- the digits by their places
 pub digits-from : (B n v : ℕ) → digits B n v ≡ from n (digit B v)

@@ -5,7 +5,7 @@ use mathlib.Core.Path.{_≡_, refl, sym, ap, _∙_}
 use native.Mathlib.Nat.{add-sub-cancel-left}
 use native.Mathlib.Omega.{arith}
 use lib.ListN.{length, take, drop, length-append, length-drop}
-use lib.Seq.{take-at, take-all, length-take-le}
+use lib.Seq.{take-at, take-all, drop-drop, length-take-le}
 use Rattle.lists.specs.Strings.{placed}
 use Rattle.lists.specs.Laws.Strings.{length-placed, placed-next}
 use borrow.Rule.Slice.PartMut.{putMid, midOf, postOf, same-len-mid, mid-len}
@@ -31,6 +31,11 @@ module _ (a e : ℕ) (s y : List ℕ) (h : a ≤ e) (g : e ≤ length s) (k : le
       rw (← q, ← append-assoc (take a s) y (postOf a (e - a) s))
       (take-at (take a s ++ y) (postOf a (e - a) s) e
       (length-append (take a s) y ∙ rw (length-take-le a s (omega arith), k, mid-len a e s g) (omega arith)))
+
+-- what is lent from `at` on and comes back as y, of n elements
+pub put-placed : (at n : ℕ) (s y : List ℕ) → length y ≡ n → putMid at (at + n - at) s y ≡ placed at y s
+unfolding placed
+put-placed at n s y l = rw (l, add-sub-cancel-left, drop-drop n at s, append-assoc)
 
 -- all of the list is written
 pub put-all : (e : ℕ) (s p : List ℕ) → length s ≤ e → take e s ≡ p → s ≡ p

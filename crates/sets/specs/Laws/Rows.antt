@@ -1,5 +1,5 @@
 -- Laws of the parameter sets: every number that Q1 takes has a row of the table.
-use Prim.Native.Nat.{ℕ, _*_, _/_, _≤_}
+use Prim.Native.Nat.{ℕ, zero, suc, _*_, _/_, _≤_, _<_}
 use mathlib.Core.Bool.{Bool, true, false, cond, _||_, false≢true}
 use mathlib.Core.Path.{_≡_, refl}
 use native.Mathlib.Omega.{arith}
@@ -9,7 +9,7 @@ use borrow.Author.Needs.{needs}
 use borrow.Author.Tests.{ne-eqb}
 use Rattle.sets.specs.declared.Params.{Params}
 use Rattle.sets.specs.Sets.{lightSaber, saber, fireSaber, noSet, paramsOf, known}
-use Rattle.sets.specs.Rooms.{Row}
+use Rattle.sets.specs.Rooms.{Row, Numbered}
 
 pub unknown-from : (n : ℕ) → 4 ≤ n → paramsOf n ≡ noSet
 unfolding paramsOf
@@ -35,6 +35,19 @@ each-row P light mid fire =
 pub row : (set : ℕ) → known set ≡ true → Row (paramsOf set)
 unfolding trailingZeros
 row = each-row Row (search needs) (search needs) (search needs)
+
+-- the number of every row, and it is the one that was asked for, unless that is 0, which stands for the default
+pub numbered : (set : ℕ) → known set ≡ true → Numbered (paramsOf set)
+unfolding paramsOf
+numbered = each-row Numbered (search needs) (search needs) (search needs)
+
+pub own-number : (set : ℕ) → 0 < set → known set ≡ true → paramsOf set .number ≡ set
+unfolding paramsOf
+own-number zero h k = absurd (omega arith)
+own-number (suc zero) h k = refl
+own-number (suc (suc zero)) h k = refl
+own-number (suc (suc (suc zero))) h k = refl
+own-number (suc (suc (suc (suc n)))) h k = absurd (false≢true (rw (unknown-from (suc (suc (suc (suc n)))) (omega arith)) at k))
 
 -- bounds that hold of no set too
 pub few-rows : (set : ℕ) {p : Params} → p ≡ paramsOf set → p .l ≤ 4

@@ -1,0 +1,34 @@
+-- `lists::store_at` meets its contract: the part that is lent has n places, and is put back at its place.
+use borrow.Author.Needs.{needs}
+use Prim.Native.Nat.{ℕ, _+_, _-_}
+use mathlib.Core.Path.{_≡_, ap, _∙_}
+use native.Mathlib.Nat.{add-sub-cancel-left}
+use native.Mathlib.Omega.{arith}
+use lib.ListN.{length}
+use borrow.Rule.Slice.PartMut.{midOf, mid-len}
+use Rattle.lists.specs.Numbers.{digits}
+use Rattle.lists.specs.Laws.Numbers.{length-digits}
+use Rattle.lists.specs.Laws.Parts.{put-placed}
+use Rattle.lists.proofs.store_at.Statement.{statement}
+use Rattle.lists.proofs.store_at.Tie as tie
+use Rattle.lists.proofs.store_at.Reads as reads
+use Rattle.lists.proofs.store_at.Lts as lts
+
+returns : tie.Need-returns
+returns c =
+    let a = c .before .before .before .before .before .args in
+    let n : length (midOf (a .at) (a .at + a .n - a .at) (a .bytes .now)) ≡ a .n = mid-len (a .at) (a .at + a .n) (a .bytes .now) (omega arith) ∙ omega arith in
+    let y = c .before .before .store .ensures ∙ ap (λ (k : ℕ). digits 256 k (a .x)) n in
+    rw y (put-placed (a .at) (a .n) (a .bytes .now) (digits 256 (a .n) (a .x)) (length-digits 256 (a .n) (a .x)))
+
+pub store-at-spec : {M : Type 1} → statement M
+store-at-spec =
+    tie.close
+    (tie.spec
+    (λ c. search needs)
+    (λ c. search needs)
+    (λ c. search needs)
+    (λ c. search needs)
+    (λ c κs. search needs)
+    (λ c. search needs)
+    returns)

@@ -1,0 +1,18 @@
+-- `records::door_part` meets its contract: a field has its bytes, or none.
+use mathlib.Core.Path.{ap}
+use native.Mathlib.Omega.{arith}
+use borrow.Author.Needs.{needs}
+use Rattle.records.specs.Records.{doorNumber}
+use Rattle.records.specs.Laws.Steps.{lays-number, lays-missing}
+use Rattle.records.proofs.door_part.Statement.{statement}
+use Rattle.records.proofs.door_part.Tie as tie
+
+pub door-part-spec : {M : Type 1} → statement M
+door-part-spec =
+    tie.close
+    (tie.spec
+    (λ c. search needs)
+    (λ c. search needs)
+    (λ c. search needs)
+    (λ c. lays-missing (0, 2) (ap doorNumber (c .enum-told .given .1)))
+    (λ c. lays-number (0, 2) (ap doorNumber (c .before .door .given .1)) (omega arith)))

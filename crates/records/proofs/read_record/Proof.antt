@@ -1,0 +1,35 @@
+-- `records::read_record` meets its contract: an answer of 0 gives the lengths, and any other leaves the output alone.
+use native.Mathlib.Omega.{arith}
+use borrow.Author.Needs.{needs}
+use lib.ListN.{length}
+use Rattle.records.specs.Rooms.{Readable}
+use Rattle.records.specs.Laws.Calls.{read-refused, read-room, read-fits, read-done}
+use Rattle.records.proofs.read_record.Statement.{statement}
+use Rattle.records.proofs.read_record.Tie as tie
+
+-- no question refuses
+room :
+    (c : tie.Else1) →
+    let head = c .before .before in
+    let start = head .before .before .before .before in
+    Readable (head .before .map-in .result) (head .head-in .result .set) (length (start .args .«record» .now)) (length (start .args .ciphertext .now))
+room c =
+    let head = c .before .before in
+    let a = head .before .before .before .before .args in
+    read-room (a .«record» .now) (a .ciphertext .now) (head .before .map-in .ensures) (head .head-in .ensures) (c .before .read-answer .ensures) (c .if1 .left)
+
+pub read-record-spec : {M : Type 1} → statement M
+read-record-spec =
+    tie.close
+    (tie.spec
+    (λ c κs. search needs)
+    (λ c κs. search needs)
+    (λ c κs. search needs)
+    (λ c. search read-refused)
+    (λ c κs. search needs)
+    (λ c. omega (arith, room (c .before)))
+    (λ c. omega (arith, room (c .before)))
+    (λ c. search needs)
+    (λ c κs. search read-fits)
+    (λ c. search needs)
+    (λ c. search read-done))

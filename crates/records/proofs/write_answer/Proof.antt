@@ -1,0 +1,21 @@
+-- `records::write_answer` meets its contract: it asks the questions of the definition, and the lengths are small enough to be added.
+use native.Mathlib.Omega.{arith}
+use borrow.Author.Needs.{needs}
+use Rattle.questions.specs.Answers.{earliest}
+use Rattle.sets.specs.Laws.Rows.{few-bytes}
+use Rattle.records.specs.Laws.Fields.{head-few}
+use Rattle.records.proofs.write_answer.Statement.{statement}
+use Rattle.records.proofs.write_answer.Tie as tie
+
+pub write-answer-spec : {M : Type 1} → statement M
+unfolding earliest
+write-answer-spec =
+    tie.close
+    (tie.spec
+    (λ c κs. search needs)
+    (λ c κs. search needs)
+    (λ c. omega (arith, few-bytes _ (c .before .before .set-params .ensures), head-few (c .before .before .before .args .map)))
+    (λ c κs. search needs)
+    (λ c κs. search needs)
+    (λ c κs. search needs)
+    (λ c. cc))

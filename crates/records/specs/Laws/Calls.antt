@@ -1,0 +1,140 @@
+-- Laws of the two calls: with its steps made each keeps its promise, and what one writes the other reads.
+use Prim.Native.Nat.{ℕ, zero, suc, _+_, _-_, _^_, _<_, _≤_}
+use mathlib.Core.Bool.{true}
+use mathlib.Core.List.{List, [], _∷_, _++_, append-assoc, append-nil}
+use mathlib.Core.Option.{Option, some}
+use mathlib.Core.Path.{_≡_, refl, sym, ap, _∙_}
+use native.Mathlib.Nat.{mod-eq-of-lt}
+use native.Mathlib.Omega.{arith}
+use lib.ListN.{length, getD, take, drop, length-append, length-drop}
+use borrow.Author.Needs.{needs}
+use borrow.Author.Tests.{eqb-true, eq-eqb}
+use Rattle.lists.specs.Numbers.{digits, Below}
+use Rattle.lists.specs.Strings.{placed}
+use Rattle.lists.specs.Laws.Numbers.{length-digits}
+use Rattle.lists.specs.Laws.Parts.{last-part}
+use Rattle.lists.specs.Laws.Strings.{placed-whole}
+use Rattle.questions.specs.Answers.{earliest, written, Wrote}
+use Rattle.questions.specs.Laws.Answers.{all-yes, none-no, refused, wrote, wrote-none, _and_}
+use Rattle.sets.specs.declared.Params.{Params}
+use Rattle.sets.specs.Sets.{paramsOf, known}
+use Rattle.sets.specs.Laws.Rows.{own-number}
+use Rattle.records.specs.declared.Door.{Door}
+use Rattle.records.specs.declared.Time.{Time}
+use Rattle.records.specs.declared.Head.{Head}
+use Rattle.records.specs.declared.Read.{Read}
+use Rattle.records.specs.declared.Read.the-variants.{Entry, Refused}
+use Rattle.records.specs.declared.Part.{Part}
+use Rattle.records.specs.Records.{Field, fields, headLength, bytesOf, doorNumber, timeNumber, numbersOf, bitsOf, laid, mapOf, headed, recordOf}
+use Rattle.records.specs.Records.{writeQuestions, headIn, ciphertextIn, readQuestions, readAnswer, readOf, answerOf, Fits, Holds}
+use Rattle.records.specs.Promises.{Recorded, Retrieved}
+use Rattle.records.specs.Rooms.{Lays, WriteRoom, Readable}
+use Rattle.records.specs.Laws.Fields.{length-laid}
+use Rattle.records.specs.Laws.Records.{Mapped, mapped, readable, read-written, written-read, write-accepts}
+
+-- Reading
+
+refusal : (a : ℕ) (h : Head) → (a ≡ 0 → ⊥) → Refused a ≡ readOf a h
+refusal zero h n = absurd (n refl)
+refusal (suc a) h n = refl
+
+module _ (s old : List ℕ) {m r : ℕ} {h : Head} (im : m ≡ getD s 0 0) (ih : h ≡ headIn s)
+    (a : r ≡ earliest (readQuestions m (h .set) (length s) (length old))) where
+  answer-is : r ≡ readAnswer s (length old)
+  answer-is = a ∙ rw (im, ih)
+
+  pub read-refused : (r ≡ 0 → ⊥) → Retrieved s old (Refused r) old
+  read-refused n = record { answers = ap Refused answer-is ∙ refusal _ (headIn s) (λ z. n (answer-is ∙ z)); writes = refused r _ old n }
+
+  pub read-room : r ≡ 0 → Readable m (h .set) (length s) (length old)
+  read-room z = readable m (h .set) (length s) (length old) a z
+
+  module _ {e : ℕ} (z : r ≡ 0) (ie : e ≡ headLength m) where
+    -- the rest of the record is as long as the output
+    rest-long : length (drop e s) ≡ length old
+    rest-long = let w = read-room z in rw (length-drop, ie) (omega arith)
+
+    part-is : take (length s - e) (drop e s) ≡ drop e s
+    part-is = last-part e (length s) s refl
+
+    pub read-fits : 0 + length (take (length s - e) (drop e s)) ≤ length old
+    read-fits = rw (part-is, rest-long) (omega arith)
+
+    pub read-done : {new : List ℕ} → new ≡ placed 0 (take (length s - e) (drop e s)) old → Retrieved s old (Entry h) new
+    read-done p =
+        let copied : placed 0 (take (length s - e) (drop e s)) old ≡ drop e s = rw part-is (placed-whole (drop e s) old (sym rest-long)) in
+        record { answers = ap Entry ih ∙ rw (← answer-is, z); writes = p ∙ copied ∙ rw (ie, im) }
+
+-- Writing
+
+part-long : {f : Field} {o : Option ℕ} {x : Part} → Lays f o x → length (bytesOf f o) ≡ x .size
+part-long {f} {o} {x} l = sym (ap length (l .bytes)) ∙ length-digits 256 (x .size) (x .number)
+
+module _ (d : Door) (t : Time) (set : ℕ) {p q : Part} (ip : Lays (0, 2) (doorNumber d) p) (iq : Lays (1, 8) (timeNumber t) q) where
+  abbrev h : Head
+  h = headed d t set
+
+  abbrev m : ℕ
+  m = p .bit + q .bit + 12
+
+  map-is : m ≡ mapOf h
+  unfolding fields bitsOf
+  map-is = omega (arith, ip .bit, iq .bit)
+
+  size-is : headLength (mapOf h) ≡ 1 + p .size + q .size + 1
+  unfolding fields laid
+  size-is =
+      let w = length-laid (mapOf h) fields (numbersOf h) (mapped d t (paramsOf set .number) .agree) in
+      omega (arith, simp (length-append, part-long ip, part-long iq, length-digits) at w)
+
+  module _ (c old : List ℕ) {r : ℕ} (a : r ≡ earliest (writeQuestions m set (length c) (length old))) where
+    answered : r ≡ earliest (writeQuestions (mapOf h) set (length c) (length old))
+    answered = a ∙ rw map-is
+
+    pub write-refused : (r ≡ 0 → ⊥) → Recorded d t set c old r old
+    write-refused n = wrote-none answered n
+
+    pub write-room : r ≡ 0 → WriteRoom (p .size) (q .size) (length c) (length old)
+    write-room z =
+        let y = all-yes (writeQuestions (mapOf h) set (length c) (length old)) refl answered z in
+        let ct = eqb-true (length c) (paramsOf set .ct) (y .1 .0) in
+        let size = eqb-true (length old) (headLength (mapOf h) + paramsOf set .ct) (y .1 .1 .0) in
+        record { doorFew = ip .few; timeFew = iq .few; sizeIs = omega (arith, size-is) }
+
+    pub write-done :
+        {x : Params} {new : List ℕ} → x ≡ paramsOf set → r ≡ 0 →
+        new
+        ≡ digits 256 1 m ++ (digits 256 (p .size) (p .number) ++ (digits 256 (q .size) (q .number) ++ (digits 256 1 (x .number) ++ c))) →
+        Recorded d t set c old 0 new
+    unfolding fields laid recordOf digits
+    write-done {x} ix z e =
+        let byte : m < 256 = omega (arith, ip .bitFew, iq .bitFew) in
+        wrote answered z (e ∙ rw (mod-eq-of-lt byte, map-is, ix, ip .bytes, iq .bytes) (simp append-assoc))
+
+-- One after the other
+
+-- what was written is read back: the same door and time, the set that its number means and the same ciphertext
+pub read-back :
+    (d : Door) (t : Time) (set : ℕ) (c old ct : List ℕ) {new ct' : List ℕ} {r : Read} → Fits 2 (doorNumber d) → Fits 8 (timeNumber t) →
+    length ct ≡ length c → Recorded d t set c old 0 new → Retrieved new ct r ct' → (r ≡ Entry (headed d t set)) × (ct' ≡ c)
+read-back d t set c old ct {new} {ct'} {r} fd ft l w g =
+    let h = headed d t set in
+    let y = all-yes (writeQuestions (mapOf h) set (length c) (length old)) refl (w .answers) refl in
+    let k = read-written d t set c fd ft (y .0) (eqb-true (length c) (paramsOf set .ct) (y .1 .0)) in
+    let a : readAnswer new (length ct) ≡ 0 = rw (l, w .writes) (k .accepted) in
+    let e : r ≡ Entry h = g .answers ∙ rw (a, w .writes, k .head) in
+    (e, g .writes ∙ rw (e, w .writes) (k .rest))
+
+accepted : (a : ℕ) (h g : Head) → Entry h ≡ readOf a g → (a ≡ 0) × (h ≡ g)
+accepted zero h g e = (refl, (cc))
+accepted (suc a) h g e = let z : _≡_ {A = ℕ} 0 1 = cc in absurd (omega arith)
+
+-- what was read is written again: the same bytes
+pub write-back :
+    (s old lent : List ℕ) {h : Head} {ct new : List ℕ} {r : ℕ} → Below 256 s → length lent ≡ length s → Retrieved s old (Entry h) ct →
+    Recorded (h .door) (h .time) (h .set) ct lent r new → (r ≡ 0) × (new ≡ s)
+write-back s old lent {h} {ct} {new} {r} b l g w =
+    let e = accepted (readAnswer s (length old)) h (headIn s) (g .answers) in
+    let a = write-accepts s (length old) b (e .0) in
+    let z : r ≡ 0 = w .answers ∙ rw (l, g .writes, e .1, a .0) (a .1) in
+    (z, w .writes ∙ rw (z, g .writes, e .1, a .0) (written-read s (length old) b (e .0)))

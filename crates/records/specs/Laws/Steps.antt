@@ -1,0 +1,88 @@
+-- The steps of the calls: what the code reads of a record and writes into it, one number after another, is the definition.
+use Prim.Native.Nat.{ℕ, _+_, _-_, _*_, _^_, _<_, _≤_}
+use mathlib.Core.Bool.{true, false}
+use mathlib.Core.List.{List, [], _∷_, _++_, append-assoc}
+use mathlib.Core.Option.{Option, none, some}
+use mathlib.Core.Path.{_≡_, refl, sym, ap, _∙_}
+use native.Mathlib.Nat.{pow-le-pow-right, one-le-pow, lt-of-lt-of-le, min-le-left}
+use native.Mathlib.Omega.{arith}
+use lib.Dec.{eqb}
+use lib.ListN.{length, getD, take, drop, length-take, length-drop, drop-of-length-le}
+use lib.Seq.{drop-drop, take-all, take-nil}
+use borrow.Author.Tests.{eq-eqb, ne-eqb}
+use Rattle.lists.specs.Numbers.{number, digits, digit}
+use Rattle.lists.specs.Strings.{placed}
+use Rattle.lists.specs.Laws.Numbers.{length-digits}
+use Rattle.lists.specs.Laws.Parts.{last-part, prefix-none, prefix-copy, prefix-all}
+use Rattle.records.specs.declared.Door.{Door}
+use Rattle.records.specs.declared.Time.{Time}
+use Rattle.records.specs.declared.Head.{Head}
+use Rattle.records.specs.Records.{Field, fields, stands, given, numbersIn, doorOf, timeOf, setOf, headIn}
+use Rattle.records.specs.Rooms.{Lays, WriteRoom}
+
+-- a number whose bit b stands, and one whose bit does not
+pub there : (m k : ℕ) {b v x : ℕ} → b ≡ digit 2 m k → b ≡ 1 → v ≡ x → some v ≡ given (stands m k) x
+there m k e t q = rw (eq-eqb (digit 2 m k) 1 (sym e ∙ t), q)
+
+pub missing : (m k x : ℕ) {b : ℕ} → b ≡ digit 2 m k → (b ≡ 1 → ⊥) → none ≡ given (stands m k) x
+missing m k x e t = rw (ne-eqb (digit 2 m k) 1 (λ q. t (e ∙ q)))
+
+-- a number of n bytes at a place, as far as there are any
+module _ (s : List ℕ) (at n : ℕ) where
+  pub clipped :
+      {y : List ℕ} {r : ℕ} → y ≡ take n (drop at s) → (r ≡ number 256 y) × (r < 256 ^ length y) →
+      (r ≡ number 256 (take n (drop at s))) × (r < 256 ^ n)
+  clipped {y} {r} e h =
+      let few : length y ≤ n = rw (e, length-take) (min-le-left _ _) in
+      (h .0 ∙ ap (number 256) e, lt-of-lt-of-le (h .1) (pow-le-pow-right (omega arith) few))
+
+  -- up to the end, and past it
+  pub to-end : length s ≤ at + n → take (length s - at) (drop at s) ≡ take n (drop at s)
+  to-end h = last-part at (length s) s refl ∙ sym (take-all n (drop at s) (simp length-drop (omega arith)))
+
+  pub past : length s ≤ at → (0 ≡ number 256 (take n (drop at s))) × (0 < 256 ^ n)
+  unfolding number
+  past h = (rw (drop-of-length-le s h, take-nil), one-le-pow n 256 (omega arith))
+
+-- the numbers one after another are those of the definition
+pub head-steps :
+    (s : List ℕ) {m b b′ n : ℕ} {d : Door} {t : Time} → m ≡ getD s 0 0 → b ≡ digit 2 m 0 → b′ ≡ digit 2 m 1 →
+    d ≡ doorOf (given (stands m 0) (number 256 (take 2 (drop 1 s)))) →
+    t ≡ timeOf (given (stands m 1) (number 256 (take 8 (drop (1 + b * 2) s)))) →
+    n ≡ setOf (given (stands m 2) (number 256 (take 1 (drop (1 + b * 2 + b′ * 8) s)))) → record { door = d; time = t; set = n } ≡ headIn s
+unfolding headIn numbersIn fields
+head-steps s em eb eb′ ed et en =
+    rw (
+      ed,
+      et,
+      en,
+      eb,
+      eb′,
+      em,
+      drop-drop (digit 2 (getD s 0 0) 0 * 2) 1 s,
+      drop-drop (digit 2 (getD s 0 0) 1 * 8) (1 + digit 2 (getD s 0 0) 0 * 2) s,
+    )
+
+-- how a number is written, and a missing one
+pub lays-number : (f : Field) {o : Option ℕ} {x : ℕ} → o ≡ some x → f .1 ≤ 8 → Lays f o (record { bit = 2 ^ f .0; size = f .1; number = x })
+lays-number f e h = rw e (record { bit = refl; bitFew = omega arith; bytes = refl; few = h })
+
+pub lays-missing : (f : Field) {o : Option ℕ} → o ≡ none → Lays f o (record { bit = 0; size = 0; number = 0 })
+unfolding digits
+lays-missing f e = rw e (record { bit = refl; bitFew = omega arith; bytes = refl; few = omega arith })
+
+-- what stands in a record that is written from the front
+pub record-steps :
+    (map door doorSize time timeSize set : ℕ) (c old : List ℕ) {s0 s1 s2 s3 s : List ℕ} → WriteRoom doorSize timeSize (length c) (length old) →
+    s0 ≡ placed 0 (digits 256 1 map) old → s1 ≡ placed 1 (digits 256 doorSize door) s0 →
+    s2 ≡ placed (1 + doorSize) (digits 256 timeSize time) s1 → s3 ≡ placed (1 + doorSize + timeSize) (digits 256 1 set) s2 →
+    s ≡ placed (1 + doorSize + timeSize + 1) c s3 →
+    s ≡ digits 256 1 map ++ (digits 256 doorSize door ++ (digits 256 timeSize time ++ (digits 256 1 set ++ c)))
+record-steps map door doorSize time timeSize set c old w e0 e1 e2 e3 e =
+    let long = length-digits 256 in
+    let a = prefix-copy {e = 1} (digits 256 1 map) (prefix-none old) (rw (long 1 map)) (omega arith) in
+    let b = prefix-copy {e = 1 + doorSize} (digits 256 doorSize door) a (rw (long doorSize door)) (omega arith) in
+    let d = prefix-copy {e = 1 + doorSize + timeSize} (digits 256 timeSize time) b (rw (long timeSize time)) (omega arith) in
+    let n = prefix-copy {e = 1 + doorSize + timeSize + 1} (digits 256 1 set) d (rw (long 1 set)) (omega arith) in
+    let whole = prefix-copy {e = 1 + doorSize + timeSize + 1 + length c} c n refl (omega arith) in
+    rw (e, e3, e2, e1, e0) (prefix-all whole (omega arith) ∙ simp append-assoc)

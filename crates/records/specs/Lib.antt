@@ -1,0 +1,4 @@
+pub mod Records
+pub mod Promises
+pub mod Rooms
+pub mod Laws

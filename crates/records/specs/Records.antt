@@ -1,0 +1,166 @@
+-- Document 02, A1: the record of a sealed entry. Byte 0 is a bit map, and only the fields whose bit stands follow, in bit order, little-endian.
+use Prim.Native.Nat.{ℕ, zero, suc, _+_, _*_, _^_, _<_}
+use mathlib.Core.Bool.{Bool, true, false}
+use mathlib.Core.List.{List, [], _∷_, _++_}
+use mathlib.Core.Option.{Option, none, some}
+use mathlib.Core.Path.{_≡_}
+use lib.Dec.{eqb, ltb, leb}
+use lib.ListN.{length, getD, take, drop}
+use Rattle.lists.specs.Numbers.{number, digits, digit}
+use Rattle.questions.specs.Answers.{Question, earliest}
+use Rattle.sets.specs.Sets.{paramsOf, known}
+use Rattle.records.specs.declared.Door.{Door}
+use Rattle.records.specs.declared.Door.the-variants as door
+use Rattle.records.specs.declared.Time.{Time}
+use Rattle.records.specs.declared.Time.the-variants as time
+use Rattle.records.specs.declared.Head.{Head}
+use Rattle.records.specs.declared.Read.{Read}
+use Rattle.records.specs.declared.Read.the-variants.{Entry, Refused}
+
+-- a field that is a number: its bit in the map, and how many bytes it has
+abbrev pub Field : Type 0
+Field = ℕ × ℕ
+
+-- these fields in the order in which they follow the map: door, time and set. Bit 3, the ciphertext, comes after them
+unfoldable pub fields : List Field
+fields = (0, 2) ∷ (1, 8) ∷ (2, 1) ∷ []
+
+-- whether a bit of a map stands
+abbrev pub stands : ℕ → ℕ → Bool
+stands m bit = eqb (digit 2 m bit) 1
+
+-- how many bytes a field takes under a map: none where its bit does not stand
+abbrev pub taken : ℕ → Field → ℕ
+taken m f = digit 2 m (f .0) * f .1
+
+unfoldable pub takenBy : ℕ → List Field → ℕ
+takenBy m [] = 0
+takenBy m (f ∷ fs) = taken m f + takenBy m fs
+
+-- how many bytes come before the ciphertext: the map, and the fields whose bit stands
+abbrev pub headLength : ℕ → ℕ
+headLength m = 1 + takenBy m fields
+
+-- Writing. The numbers of an entry, in the order of the fields; a door or a time may be missing
+
+abbrev pub doorNumber : Door → Option ℕ
+doorNumber door.Missing = none
+doorNumber (door.Number x) = some x
+
+abbrev pub timeNumber : Time → Option ℕ
+timeNumber time.Missing = none
+timeNumber (time.Number x) = some x
+
+abbrev pub numbersOf : Head → List (Option ℕ)
+numbersOf h = doorNumber (h .door) ∷ timeNumber (h .time) ∷ some (h .set) ∷ []
+
+-- the bit of a number that is there, and its bytes, lowest first; a missing one has neither
+abbrev pub bitOf : Field → Option ℕ → ℕ
+bitOf f none = 0
+bitOf f (some x) = 2 ^ f .0
+
+abbrev pub bytesOf : Field → Option ℕ → List ℕ
+bytesOf f none = []
+bytesOf f (some x) = digits 256 (f .1) x
+
+-- all bits together, and all bytes one behind the other
+unfoldable pub bitsOf : List Field → List (Option ℕ) → ℕ
+bitsOf (f ∷ fs) (x ∷ xs) = bitOf f x + bitsOf fs xs
+bitsOf [] xs = 0
+bitsOf (f ∷ fs) [] = 0
+
+unfoldable pub laid : List Field → List (Option ℕ) → List ℕ
+laid (f ∷ fs) (x ∷ xs) = bytesOf f x ++ laid fs xs
+laid [] xs = []
+laid (f ∷ fs) [] = []
+
+-- the map of an entry: the bits of its numbers, and bit 3, since no ciphertext is missing
+abbrev pub mapOf : Head → ℕ
+mapOf h = bitsOf fields (numbersOf h) + 8
+
+-- the record of an entry, a head and a ciphertext
+unfoldable pub recordOf : Head → List ℕ → List ℕ
+recordOf h ciphertext = mapOf h ∷ laid fields (numbersOf h) ++ ciphertext
+
+-- the head of an entry to be written: it has the set that its number means
+abbrev pub headed : Door → Time → ℕ → Head
+headed door time set = record { door = door; time = time; set = paramsOf set .number }
+
+-- the questions of a writer, Q1, Q6 and Q9, by the entry's map, its set number and lengths
+abbrev pub writeQuestions : ℕ → ℕ → ℕ → ℕ → List Question
+writeQuestions m set ct size =
+    (known set, 1) ∷ (eqb ct (paramsOf set .ct), 6) ∷ (eqb size (headLength m + paramsOf set .ct), 9) ∷ []
+
+-- Reading. Past the end of a record every byte counts as 0; its length is asked about
+
+-- byte 0
+abbrev pub mapIn : List ℕ → ℕ
+mapIn s = getD s 0 0
+
+-- the numbers that stand one behind the other in a string, by the map
+abbrev pub given : Bool → ℕ → Option ℕ
+given true x = some x
+given false x = none
+
+unfoldable pub numbersIn : ℕ → List Field → List ℕ → List (Option ℕ)
+numbersIn m [] s = []
+numbersIn m (f ∷ fs) s = given (stands m (f .0)) (number 256 (take (f .1) s)) ∷ numbersIn m fs (drop (taken m f) s)
+
+-- the head whose numbers these are
+abbrev pub doorOf : Option ℕ → Door
+doorOf none = door.Missing
+doorOf (some x) = door.Number x
+
+abbrev pub timeOf : Option ℕ → Time
+timeOf none = time.Missing
+timeOf (some x) = time.Number x
+
+abbrev pub setOf : Option ℕ → ℕ
+setOf none = 0
+setOf (some x) = x
+
+abbrev pub headOf : List (Option ℕ) → Head
+headOf xs = record { door = doorOf (getD xs 0 none); time = timeOf (getD xs 1 none); set = setOf (getD xs 2 none) }
+
+-- the entry that a record holds
+unfoldable pub headIn : List ℕ → Head
+headIn s = headOf (numbersIn (mapIn s) fields (drop 1 s))
+
+abbrev pub ciphertextIn : List ℕ → List ℕ
+ciphertextIn s = drop (headLength (mapIn s)) s
+
+-- the questions of a reader, by the record's map and set bytes, its length and the output's. 10: the record is not empty, and of its map
+-- bits 4 to 7 are clear and bits 2 and 3 stand; 11: it reaches to the set byte; 1: that is the number of a set itself; 11: the whole
+-- length is that which map and set require; 9
+abbrev pub readQuestions : ℕ → ℕ → ℕ → ℕ → List Question
+readQuestions m set size ct =
+    (ltb 0 size, 10) ∷ (ltb m 16, 10) ∷ (stands m 2, 10) ∷ (stands m 3, 10)
+    ∷ (leb (headLength m) size, 11)
+    ∷ (ltb 0 set, 1) ∷ (known set, 1)
+    ∷ (eqb size (headLength m + paramsOf set .ct), 11)
+    ∷ (eqb ct (paramsOf set .ct), 9) ∷ []
+
+-- the answer to a read of the record s, where an output of so many bytes is lent
+abbrev pub readAnswer : List ℕ → ℕ → ℕ
+readAnswer s ct = earliest (readQuestions (mapIn s) (headIn s .set) (length s) ct)
+
+-- what reading gives, by its answer: the head of the entry where that is 0, and else the refusal alone
+abbrev pub readOf : ℕ → Head → Read
+readOf zero h = Entry h
+readOf (suc n) h = Refused (suc n)
+
+-- the number that each case of it answers
+abbrev pub answerOf : Read → ℕ
+answerOf (Entry h) = 0
+answerOf (Refused n) = n
+
+-- a number fits its field of n bytes, and an entry's numbers fit theirs
+abbrev pub Fits : ℕ → Option ℕ → Type 0
+Fits n none = Unit {0}
+Fits n (some x) = x < 256 ^ n
+
+-- the record s holds an entry: a reader who lends an output of the ciphertext's length takes it, and is given this head and this ciphertext
+pub record Holds (s : List ℕ) (h : Head) (ciphertext : List ℕ) : Type 0 where
+  pub accepted : readAnswer s (length ciphertext) ≡ 0
+  pub head : headIn s ≡ h
+  pub rest : ciphertextIn s ≡ ciphertext

@@ -1,0 +1,236 @@
+// The record of a sealed entry, written and read.
+ghost use mathlib.Core.List.{_∷_, _++_};
+ghost use mathlib.Core.Path.{_≡_};
+ghost use Prim.Native.Nat.{_+_, _^_, _<_, _≤_};
+ghost use lib.ListN.{length, getD, take, drop};
+ghost use Rattle.lists.specs.Numbers.{number, digits, digit};
+ghost use Rattle.questions.specs.Answers.{earliest};
+ghost use Rattle.records.specs.Records.{headLength, doorNumber, timeNumber, writeQuestions, stands, given, doorOf, timeOf, setOf};
+ghost use Rattle.records.specs.Records.{headIn, readQuestions};
+ghost use Rattle.records.specs.Promises.{Recorded, Retrieved};
+ghost use Rattle.records.specs.Rooms.{Lays, WriteRoom};
+use questions::ask;
+use sets::set_params;
+
+// A door number, or none.
+pub enum Door {
+    Missing,
+    Number(u16),
+}
+
+// A time, or none.
+pub enum Time {
+    Missing,
+    Number(u64),
+}
+
+// The numbers of an entry.
+pub struct Head {
+    pub door: Door,
+    pub time: Time,
+    pub set: u32,
+}
+
+// What reading a record gives: the numbers of its entry, or why it is refused.
+pub enum Read {
+    Entry(Head),
+    Refused(u8),
+}
+
+// A number as it is written: its bit of the map, its bytes and itself. A missing one has no bit and no bytes.
+pub struct Part {
+    pub bit: u8,
+    pub size: usize,
+    pub number: u64,
+}
+
+// A bit of a map, 0 or 1.
+fn bit(map: u8, k: u32) -> usize
+    requires { ⌜ k < 8 ⌝ }
+    ensures { λ r. ⌜ r ≡ digit 2 map k ⌝ }
+{
+    ((map >> k) % 2) as usize
+}
+
+// How many bytes come before the ciphertext.
+fn head_length(map: u8) -> usize
+    ensures { λ r. ⌜ r ≡ headLength map ⌝ }
+{
+    1 + bit(map, 0) * 2 + bit(map, 1) * 8 + bit(map, 2)
+}
+
+fn door_part(door: Door) -> Part
+    ensures { λ r. ⌜ Lays (0, 2) (doorNumber door) r ⌝ }
+{
+    match door {
+        Door::Missing => Part {
+            bit: 0,
+            size: 0,
+            number: 0,
+        },
+        Door::Number(x) => Part {
+            bit: 1,
+            size: 2,
+            number: x as u64,
+        },
+    }
+}
+
+fn time_part(time: Time) -> Part
+    ensures { λ r. ⌜ Lays (1, 8) (timeNumber time) r ⌝ }
+{
+    match time {
+        Time::Missing => Part {
+            bit: 0,
+            size: 0,
+            number: 0,
+        },
+        Time::Number(x) => Part {
+            bit: 2,
+            size: 8,
+            number: x,
+        },
+    }
+}
+
+// What writing answers: Q1, Q6, Q9.
+fn write_answer(map: u8, set: u32, ciphertext: usize, record: usize) -> u8
+    ensures { λ r. ⌜ r ≡ earliest (writeQuestions map set ciphertext «record») ⌝ }
+{
+    let p = set_params(set);
+    let size = head_length(map) + p.ct;
+    ask(
+        0 < p.l,
+        1,
+        ask(ciphertext == p.ct, 6, ask(record == size, 9, 0)),
+    )
+}
+
+// Writes the map, the numbers and the ciphertext, one behind the other.
+fn write_into(map: u8, door: Part, time: Part, set: u32, ciphertext: &[u8], record: &mut [u8])
+    requires { ⌜ WriteRoom (door .size) (time .size) (length (now ciphertext)) (length (now «record»)) ⌝ }
+    ensures { λ _. ⌜ now («record» .exit) ≡ digits 256 1 map ++ (digits 256 (door .size) (door .number)
+        ++ (digits 256 (time .size) (time .number) ++ (digits 256 1 set ++ now (ciphertext .entry)))) ⌝ }
+{
+    let t = 1 + door.size;
+    let s = t + time.size;
+    lists::store_at(record, 0, 1, map as u64);
+    lists::store_at(record, 1, door.size, door.number);
+    lists::store_at(record, t, time.size, time.number);
+    lists::store_at(record, s, 1, set as u64);
+    lists::copy_at(ciphertext, record, s + 1);
+}
+
+// Writes the record of an entry: Q1, Q6, Q9.
+pub fn write_record(door: Door, time: Time, set: u32, ciphertext: &[u8], record: &mut [u8]) -> u8
+    ensures { λ r. ⌜ Recorded door time set (now (ciphertext .entry)) (now («record» .entry)) r (now («record» .exit)) ⌝ }
+{
+    let d = door_part(door);
+    let t = time_part(time);
+    let map = d.bit + t.bit + 12;
+    let r = write_answer(map, set, ciphertext.len(), record.len());
+    if r != 0 {
+        return r;
+    }
+    let p = set_params(set);
+    write_into(map, d, t, p.number, ciphertext, record);
+    0
+}
+
+// The map of a record, 0 where it is empty.
+fn map_in(record: &[u8]) -> u8
+    ensures { λ r. ⌜ r ≡ getD (now («record» .entry)) 0 0 ⌝ }
+{
+    if record.len() == 0 {
+        return 0;
+    }
+    record[0]
+}
+
+// The number of n bytes from a place on, as far as the record reaches.
+fn number_at(record: &[u8], at: usize, n: usize) -> u64
+    requires { ⌜ (at ≤ 16) × (n ≤ 8) ⌝ }
+    ensures { λ r. ⌜ (r ≡ number 256 (take n (drop at (now («record» .entry))))) × (r < 256 ^ n) ⌝ }
+{
+    if record.len() <= at {
+        return 0;
+    }
+    let end = at + n;
+    if end <= record.len() {
+        return lists::load(&record[at..end]);
+    }
+    lists::load(&record[at..])
+}
+
+fn door_in(record: &[u8], map: u8) -> Door
+    ensures { λ r. ⌜ r ≡ doorOf (given (stands map 0) (number 256 (take 2 (drop 1 (now («record» .entry)))))) ⌝ }
+{
+    if bit(map, 0) == 1 {
+        return Door::Number((number_at(record, 1, 2) % 65536) as u16);
+    }
+    Door::Missing
+}
+
+fn time_in(record: &[u8], map: u8, at: usize) -> Time
+    requires { ⌜ at ≤ 16 ⌝ }
+    ensures { λ r. ⌜ r ≡ timeOf (given (stands map 1) (number 256 (take 8 (drop at (now («record» .entry)))))) ⌝ }
+{
+    if bit(map, 1) == 1 {
+        return Time::Number(number_at(record, at, 8));
+    }
+    Time::Missing
+}
+
+fn set_in(record: &[u8], map: u8, at: usize) -> u32
+    requires { ⌜ at ≤ 16 ⌝ }
+    ensures { λ r. ⌜ r ≡ setOf (given (stands map 2) (number 256 (take 1 (drop at (now («record» .entry)))))) ⌝ }
+{
+    if bit(map, 2) == 1 {
+        return (number_at(record, at, 1) % 256) as u32;
+    }
+    0
+}
+
+// The numbers of the entry in a record, each where the map puts it.
+fn head_in(record: &[u8]) -> Head
+    ensures { λ r. ⌜ r ≡ headIn (now («record» .entry)) ⌝ }
+{
+    let map = map_in(record);
+    let t = 1 + bit(map, 0) * 2;
+    let s = t + bit(map, 1) * 8;
+    let door = door_in(record, map);
+    let time = time_in(record, map, t);
+    let set = set_in(record, map, s);
+    Head { door, time, set }
+}
+
+// What reading answers: 10, 11, 1, 11, 9.
+fn read_answer(map: u8, set: u32, record: usize, ciphertext: usize) -> u8
+    ensures { λ r. ⌜ r ≡ earliest (readQuestions map set «record» ciphertext) ⌝ }
+{
+    let p = set_params(set);
+    let head = head_length(map);
+    let total = ask(record == head + p.ct, 11, ask(ciphertext == p.ct, 9, 0));
+    let known = ask(0 < set, 1, ask(0 < p.l, 1, total));
+    let reach = ask(bit(map, 3) == 1, 10, ask(head <= record, 11, known));
+    ask(
+        0 < record,
+        10,
+        ask(map < 16, 10, ask(bit(map, 2) == 1, 10, reach)),
+    )
+}
+
+// Reads a record: 10, 11, 1, 11, 9. The ciphertext is copied out.
+pub fn read_record(record: &[u8], ciphertext: &mut [u8]) -> Read
+    ensures { λ r. ⌜ Retrieved (now («record» .entry)) (now (ciphertext .entry)) r (now (ciphertext .exit)) ⌝ }
+{
+    let map = map_in(record);
+    let head = head_in(record);
+    let r = read_answer(map, head.set, record.len(), ciphertext.len());
+    if r != 0 {
+        return Read::Refused(r);
+    }
+    let a = head_length(map);
+    lists::copy_at(&record[a..], ciphertext, 0);
+    Read::Entry(head)
+}
