@@ -1,7 +1,8 @@
 // Saber, a key encapsulation, in the three parameter sets of its submission.
 //
-// A slice is a pointer and then a count of elements: bytes, or coefficients of 16 bits, which start at an even address. Each call asks its
-// questions in the order of `enum saber_answer`. It answers 0 with every output written, or the first refusal with no output changed,
+// A slice is a pointer and then a count of elements: bytes, or coefficients of 16 bits, which start at an even address. A number that is
+// handed back is lent as a pointer to one and is an output too. Each call asks its questions in the order of `enum saber_answer`, all but
+// saber_read_record, which has an order of its own. It answers 0 with its outputs written, or the first refusal with no output changed,
 // whatever the numbers, counts and contents. Calls keep nothing from one to the next and may run in several threads.
 //
 // What no call can test, and the caller sees to:
@@ -32,7 +33,7 @@ extern "C" {
 
 enum saber_answer {
     SABER_OK = 0,
-    SABER_UNKNOWN_SET = 1,        // the set number is not 0, 1, 2 or 3
+    SABER_UNKNOWN_SET = 1,        // the set number is not 0, 1, 2 or 3, or a record's set byte not 1, 2 or 3
     SABER_UNKNOWN_NUMBER = 2,     // the packing width is not 1, 3, 4, 6, 10 or 13, or the modulus not 1024 or 8192
     SABER_SEED_LENGTH = 3,        // a seed, z or a message is not 32 bytes
     SABER_PUBLIC_KEY_LENGTH = 4,  // the public key has not its set's length
@@ -40,7 +41,9 @@ enum saber_answer {
     SABER_CIPHERTEXT_LENGTH = 6,  // the ciphertext has not its set's length
     SABER_INPUT_LENGTH = 7,       // an input list is not 256 coefficients, or a string to unpack not 32 x width bytes
     SABER_COEFFICIENT_RANGE = 8,  // a coefficient is not below its modulus
-    SABER_OUTPUT_LENGTH = 9       // an output has not the length of its result
+    SABER_OUTPUT_LENGTH = 9,      // an output has not the length of its result
+    SABER_RECORD_MAP = 10,        // the record is empty, or its map has bits that no field has or lacks set or ciphertext
+    SABER_RECORD_LENGTH = 11      // the record has not the length that its map and set byte require
 };
 
 // Set numbers. 0 means the same as 2.
@@ -115,6 +118,24 @@ uint8_t saber_encrypt(uint32_t set, const uint8_t *public_key, size_t public_key
 // Decrypts to a message of 32 bytes with the plain secret, the first 416 x l bytes of a secret key. Refusals: 1, 5, 6, 9.
 uint8_t saber_decrypt(uint32_t set, const uint8_t *plain_secret, size_t plain_secret_count, const uint8_t *ciphertext,
                       size_t ciphertext_count, uint8_t *message, size_t message_count);
+
+// Records: one layout for a ciphertext with its set, and a door number and a time that may be missing. A record is a byte with a bit map
+// and then the fields whose bit stands, low bytes first: door (bit 0, 2 bytes), time (bit 1, 8 bytes, any value), set (bit 2, 1 byte),
+// ciphertext (bit 3, its set's length). So it has 2 bytes, 2 more with a door, 8 more with a time, and the ciphertext. An entry has one
+// record, and writing and reading undo each other.
+
+// Writes the record of an entry. Where has_door or has_time is 0 the field is missing and the number after the flag is not looked at; any
+// other flag says that it is there. Set 0 is stored as the set that it means. Refusals: 1, 6, 9.
+uint8_t saber_write_record(uint8_t has_door, uint16_t door, uint8_t has_time, uint64_t time, uint32_t set, const uint8_t *ciphertext,
+                           size_t ciphertext_count, uint8_t *record, size_t record_count);
+
+// Reads a record and copies its ciphertext out. On answer 0 *has_door and *has_time are 1 or 0; where one is 0 the number after it is left
+// as it was, so that a missing field never reads as 0; *set is 1, 2 or 3. On a refusal no flag, number or byte changes. Who does not know
+// the set finds the ciphertext's count from the record's: less 2, less 2 more if record[0] has bit 0, less 8 more if it has bit 1. Where
+// that is below 0 or more than can be lent, no read is accepted, and 0 bytes may be lent. The record's length is asked for twice, whether
+// there is a set byte and, once that is known, whether all is there and no more. Refusals: 10, 11, 1, 11, 9.
+uint8_t saber_read_record(const uint8_t *record, size_t record_count, uint8_t *has_door, uint16_t *door, uint8_t *has_time,
+                          uint64_t *time, uint32_t *set, uint8_t *ciphertext, size_t ciphertext_count);
 
 // Sampling
 

@@ -1,15 +1,16 @@
-"""The calls of document 01, a row each: what a call takes, what it writes, and the questions that it asks.
+"""The calls of documents 01 and 02, a row each: what a call takes, hands back and writes, and what it asks.
 
 What is known of a call elsewhere (its answer, its line in sabercall's notation, its exported function, arguments that
 are sound or refused) follows from its row and from the roles of its parameters. What it writes is reckoned by the
 function of its name in saber.py.
 """
 
+from types import SimpleNamespace
 from typing import Callable, NamedTuple
 
 import saber
 
-# Roles. A length or bound is a number, or a function of what the call's own number means: a set, a width or a modulus.
+# Roles. A length or bound is a number, or a function of the call's inputs by their names: see `Call.given`.
 
 
 class Number(NamedTuple):
@@ -18,6 +19,15 @@ class Number(NamedTuple):
     question: int
     meanings: dict
     kind = "number"
+    bits = 32
+
+
+class Optional(NamedTuple):
+    """A number that may be missing, which is None. No question is asked about it."""
+
+    bits: int
+    question = None
+    kind = "optional"
 
 
 class Slice(NamedTuple):
@@ -28,11 +38,11 @@ class Slice(NamedTuple):
     question: int | None = None
     bound: int | Callable | None = None  # what coefficients lie below
 
-    def size(self, meaning):
-        return self.length(meaning) if callable(self.length) else self.length
+    def size(self, given):
+        return self.length(given) if callable(self.length) else self.length
 
-    def limit(self, meaning):
-        return self.bound(meaning) if callable(self.bound) else self.bound
+    def limit(self, given):
+        return self.bound(given) if callable(self.bound) else self.bound
 
 
 def polynomial(bound):
@@ -43,25 +53,28 @@ ROLES = {
     "set": Number(1, saber.NUMBERS),
     "width": Number(2, {width: width for width in saber.WIDTHS}),
     "modulus": Number(2, {modulus: modulus for modulus in saber.MODULI}),
+    "door": Optional(16),
+    "time": Optional(64),
     "any": Slice("bytes"),
     "seed": Slice("bytes", 32, 3),
     "message": Slice("bytes", 32, 3),
     "shared_secret": Slice("bytes", 32),
     "digest_256": Slice("bytes", 32),
     "digest_512": Slice("bytes", 64),
-    "public_key": Slice("bytes", lambda set: set.public_key, 4),
-    "secret_key": Slice("bytes", lambda set: set.secret_key, 5),
-    "plain_secret": Slice("bytes", lambda set: set.plain_secret, 5),
-    "ciphertext": Slice("bytes", lambda set: set.ciphertext, 6),
-    "packed": Slice("bytes", lambda width: 32 * width, 7),
-    "below_width": polynomial(lambda width: 1 << width),
-    "below_modulus": polynomial(lambda modulus: modulus),
+    "public_key": Slice("bytes", lambda given: given.set.public_key, 4),
+    "secret_key": Slice("bytes", lambda given: given.set.secret_key, 5),
+    "plain_secret": Slice("bytes", lambda given: given.set.plain_secret, 5),
+    "ciphertext": Slice("bytes", lambda given: given.set.ciphertext, 6),
+    "record": Slice("bytes", lambda given: saber.record_length(saber.fields_for(given.door, given.time), given.set)),
+    "packed": Slice("bytes", lambda given: 32 * given.width, 7),
+    "below_width": polynomial(lambda given: 1 << given.width),
+    "below_modulus": polynomial(lambda given: given.modulus),
     "below_q": polynomial(saber.Q),
     "below_p": polynomial(saber.P),
-    "data": polynomial(lambda set: saber.P // set.g),
+    "data": polynomial(lambda given: saber.P // given.set.g),
     "bits": polynomial(2),
-    "matrix": Slice("list", lambda set: saber.N * set.l * set.l, bound=saber.Q),
-    "secret": Slice("list", lambda set: saber.N * set.l, bound=saber.Q),
+    "matrix": Slice("list", lambda given: saber.N * given.set.l * given.set.l, bound=saber.Q),
+    "secret": Slice("list", lambda given: saber.N * given.set.l, bound=saber.Q),
 }
 
 
@@ -70,13 +83,14 @@ ROLES = {
 
 class Parameter(NamedTuple):
     name: str
-    role: Number | Slice
+    role: Number | Optional | Slice
     question: int | None  # about its value or length
 
 
 class Call(NamedTuple):
     name: str
     inputs: list[Parameter]
+    handed: list[Parameter]  # numbers that it hands back besides its answer
     outputs: list[Parameter]  # a lookup has none: it hands back a part of an input, and no number
     questions: tuple[int]
 
@@ -92,43 +106,58 @@ class Call(NamedTuple):
         part = self.name.removesuffix("_of")
         return [f"saber_{part}_offset", f"saber_{part}_length"]
 
-    def meaning(self, arguments):
-        """What the call's number means; None where that is nothing."""
-        pairs = zip(self.inputs, arguments)
-        return next((p.role.meanings.get(number) for p, number in pairs if p.role.kind == "number"), None)
+    def given(self, arguments):
+        """The inputs by their names, a number as what it means, and the set that a record names. None means nothing."""
+        found = SimpleNamespace()
+        for parameter, value in zip(self.inputs, arguments):
+            if parameter.role.kind == "number":
+                value = parameter.role.meanings.get(value)
+            if parameter.name == "record":
+                found.set = saber.set_in(value)
+            setattr(found, parameter.name, value)
+        return found
 
     def limits(self, arguments):
         """By the place of each input list, what its coefficients have to lie below."""
         lists = [(place, p.role) for place, p in enumerate(self.inputs) if p.role.kind == "list"]
-        return {place: role.limit(self.meaning(arguments)) for place, role in lists}
+        return {place: role.limit(self.given(arguments)) for place, role in lists}
 
-    def yes(self, question, arguments):
-        """Whether a question is answered yes, where the earlier ones were."""
-        meaning = self.meaning(arguments)
-        if question in (1, 2):
-            return meaning is not None
+    def yes(self, question, arguments, again=False):
+        """Whether a question is answered yes, where the earlier ones were; `again` where it is asked a second time."""
+        given = self.given(arguments)
+        if question == 1:
+            return given.set is not None
+        if question == 2:
+            return all(getattr(given, p.name) is not None for p in self.inputs if p.question == 2)
         if question == 8:
             return all(x < limit for place, limit in self.limits(arguments).items() for x in arguments[place])
+        if question == 10:
+            return len(given.record) > 0 and saber.is_map(given.record[0])
+        if question == 11 and not again:
+            return len(given.record) > saber.set_place(given.record[0])
+        if question == 11:
+            return len(given.record) == saber.record_length(saber.fields_in(given.record[0]), given.set)
         pairs = zip(self.parameters, arguments)
-        return all(len(value) == p.role.size(meaning) for p, value in pairs if p.question == question)
+        return all(len(value) == p.role.size(given) for p, value in pairs if p.question == question)
 
     def run(self, *arguments):
-        """The answer, and the outputs as they are afterwards; of a lookup no number, and the part.
+        """The answer, and the numbers handed back with the outputs as they are afterwards; of a lookup just the part.
 
-        The arguments are the inputs and then the outputs as they are lent.
+        The arguments are the inputs and then the outputs as they are lent. On a refusal None is handed back.
         """
         assert len(arguments) == len(self.parameters), f"{self.name} takes {len(self.parameters)} arguments"
-        inputs, lent = arguments[: len(self.inputs)], arguments[len(self.inputs) :]
-        for question in self.questions:
-            if not self.yes(question, arguments):
-                return (question, [*lent]) if self.outputs else (None, [b""])
-        values = [self.meaning(arguments) if p.role.kind == "number" else x for p, x in zip(self.inputs, inputs)]
+        lent = arguments[len(self.inputs) :]
+        for i, question in enumerate(self.questions):
+            if not self.yes(question, arguments, question in self.questions[:i]):
+                return (question, [None] * len(self.handed) + [*lent]) if self.outputs else (None, [b""])
+        given = self.given(arguments)
+        values = [getattr(given, p.name) for p in self.inputs]
         lengths = [len(x) for p, x in zip(self.outputs, lent) if p.role.length is None]
         results = getattr(saber, self.name)(*values, *lengths)
-        return (0 if self.outputs else None), [*results] if len(self.outputs) > 1 else [results]
+        return (0 if self.outputs else None), [*results] if len(self.handed + self.outputs) > 1 else [results]
 
 
-def call(name, inputs, outputs, *questions):
+def call(name, inputs, outputs, *questions, handed=""):
     """A row. A parameter is written as its name, which is its role's too, or as `name: role`."""
 
     def parameters(text, question):
@@ -138,7 +167,8 @@ def call(name, inputs, outputs, *questions):
     def lent(role):
         return None if role.length is None else 9
 
-    return Call(name, parameters(inputs, lambda role: role.question), parameters(outputs, lent), questions)
+    asked, numbers = parameters(inputs, lambda role: role.question), parameters(handed, lambda role: None)
+    return Call(name, asked, numbers, parameters(outputs, lent), questions)
 
 
 TABLE = [
@@ -159,6 +189,8 @@ TABLE = [
     call("sha3_256", "input: any", "digest: digest_256", 9),
     call("sha3_512", "input: any", "digest: digest_512", 9),
     call("public_key_of", "set, secret_key", "", 1, 5),
+    call("write_record", "door, time, set, ciphertext", "record", 1, 6, 9),
+    call("read_record", "record", "ciphertext", 10, 11, 1, 11, 9, handed="door, time, set"),
 ]
 CALLS = {call.name: call for call in TABLE}
 

@@ -1,9 +1,10 @@
 """The line notation of the program sabercall: a call on each line, an answer on each line.
 
 A line is a call's name and its arguments, one space between words: numbers in decimal, bytes as hex
-pairs, lists as four hex digits a coefficient, `-` for an empty string or list. An output argument is
-the content of the buffer that is lent. The answer is the call's number, then every output as it is
-after the call. Lines that begin with `#` are comments.
+pairs, lists as four hex digits a coefficient, `-` for an empty string or list and for a number that is
+missing. An output argument is the content of the buffer that is lent. The answer is the call's number,
+the numbers that it hands back, then every output as it is after the call. Lines that begin with `#` are
+comments.
 
     python3 oracle/notation.py < requests > answers
 """
@@ -22,11 +23,11 @@ class Unreadable(Exception):
     """A line that is no call; its text is the reason."""
 
 
-def read_number(word):
+def read_number(word, bits):
     if not word or any(byte not in DECIMAL for byte in word):
         raise Unreadable("bad digit")
     digits = word.lstrip(b"0") or b"0"
-    if len(digits) > 10 or int(digits) >= 1 << 32:
+    if len(digits) > 20 or int(digits) >= 1 << bits:
         raise Unreadable("too large")
     return int(digits)
 
@@ -44,28 +45,29 @@ def read_hex(word, unit):
     return bytes.fromhex(word.decode())
 
 
-def read_bytes(word):
-    return read_hex(word, 2)
-
-
-def read_list(word):
+def read_word(word, role):
+    if role.kind == "optional" and word == b"-":
+        return None
+    if role.kind in ("number", "optional"):
+        return read_number(word, role.bits)
+    if role.kind == "bytes":
+        return read_hex(word, 2)
     string = read_hex(word, 4)
     return list(struct.unpack(f">{len(string) // 2}H", string))
 
 
-READERS = {"number": read_number, "bytes": read_bytes, "list": read_list}
-
-
 def write_word(value):
+    if value is None:
+        return b"-"
     if isinstance(value, int):
         return b"%d" % value
     string = value if isinstance(value, bytes) else struct.pack(f">{len(value)}H", *value)
     return string.hex().encode() or b"-"
 
 
-def write_answer(number, outputs):
-    """A number of None is left out."""
-    return b" ".join(write_word(value) for value in [number, *outputs] if value is not None)
+def write_answer(number, values):
+    """The values are those handed back, then the outputs. An answer of None is left out."""
+    return b" ".join(map(write_word, values if number is None else [number, *values]))
 
 
 def write_request(name, *arguments):
@@ -84,7 +86,7 @@ def read_request(line):
     for i, parameter in enumerate(call.parameters):
         if i == len(words):
             raise Unreadable("wrong count")
-        arguments.append(READERS[parameter.role.kind](words[i]))
+        arguments.append(read_word(words[i], parameter.role))
     if len(words) > len(arguments):
         raise Unreadable("wrong count")
     return call, arguments

@@ -5,8 +5,8 @@
 
 `--to DIR` takes another root than the repository's.
 The answers are the oracle's. An answer that is known beforehand (a case of document 01, a published
-vector, a known answer, a refusal, an error) is stated beside its request, and the oracle's is
-compared with it.
+vector, a known answer, a record, a refusal, an error) is stated beside its request, and the oracle's
+is compared with it.
 """
 
 import argparse
@@ -22,7 +22,7 @@ import known_answers
 import notation
 import saber
 from calls import CALLS
-from samples import NIST_FILES, bits, counted_secret, draw, draw_list, flipped, monomial, vectors
+from samples import NIST_FILES, bits, counted_secret, draw, draw_list, flipped, laid_record, monomial, vectors
 from samples import lent_bytes, lent_list
 
 UNKNOWN_SETS = (4, 5, 4294967295)
@@ -40,7 +40,7 @@ class Line(NamedTuple):
 
 
 def ask(name, *arguments, stated=None):
-    """A line that makes a call; `stated` is its number and its outputs."""
+    """A line that makes a call; `stated` is its number, and what it hands back with its outputs."""
     return Line(notation.write_request(name, *arguments), stated and notation.write_answer(*stated))
 
 
@@ -459,6 +459,149 @@ def decrypt_section():
     yield from scheme_refusals("decrypt", sound)
 
 
+# Records: doors and times, and which of them an entry has
+
+DOORS, TIMES = (0, 255, 256, 65535), (0, 1, 1 << 32, 1 << 63, (1 << 64) - 1)
+PRESENT = ((None, None), (0x1234, None), (None, 0x0102030405060708), (0x1234, 0x0102030405060708))
+
+
+def any_ciphertext(number):
+    return draw(f"record {number}", saber.NUMBERS[number].ciphertext)
+
+
+def entry_record(door, time, number):
+    """The record of an entry of the set; 0 means 2."""
+    return laid_record(door, time, number or 2, any_ciphertext(number))
+
+
+def in_words(door, time):
+    return " and ".join(name for name, number in (("door", door), ("time", time)) if number is not None) or "neither"
+
+
+def write_record_section():
+    def sound(door, time, number):
+        return [door, time, number, any_ciphertext(number), lent_bytes(len(entry_record(door, time, number)))]
+
+    def written(door, time, number):
+        return ask("write_record", *sound(door, time, number), stated=(0, [entry_record(door, time, number)]))
+
+    for number in saber.NUMBERS:
+        yield f"# write_record, set {number}: door and time missing, each there alone, both there"
+        for door, time in PRESENT:
+            yield written(door, time, number)
+    yield "# write_record: doors and times"
+    for door, time in itertools.product((None, *DOORS), (None, *TIMES)):
+        yield written(door, time, 1)
+    for number, (door, time) in itertools.product(saber.NUMBERS, PRESENT):
+        title, whole = f"write_record, set {number}, {in_words(door, time)}", number == 1
+        if whole or (door and time):
+            yield from refusals(title, "write_record", sound(door, time, number), UNKNOWN_SETS if whole else (), whole)
+    yield "# write_record: a record for other fields, a ciphertext of another set"
+    for ours, theirs in itertools.permutations(PRESENT, 2):
+        lent = sound(*theirs, 1)[4]
+        yield ask("write_record", *sound(*ours, 1)[:4], lent, stated=(9, [lent]))
+    for number in saber.NUMBERS:
+        ciphertext, lent = sound(None, 1, number % 3 + 1)[3:]
+        yield ask("write_record", None, 1, number, ciphertext, lent, stated=(6, [lent]))
+
+
+def unread(answer, record, lent):
+    """A line whose record is refused: nothing is handed back."""
+    return ask("read_record", record, lent, stated=(answer, [None, None, None, lent]))
+
+
+def with_byte(record, place, byte):
+    return record[:place] + bytes([byte]) + record[place + 1 :]
+
+
+def map_turned(bit):
+    return lambda record: with_byte(record, 0, record[0] ^ 1 << bit)
+
+
+def misread(record, lent, *faults):
+    """A read with several faults, the one that is asked first in front."""
+    arguments = [record, lent]
+    for fault in reversed(faults):
+        arguments[fault.place] = fault.change(arguments[fault.place])
+    return unread(faults[0].answer, *arguments)
+
+
+def read_refusals(door, time):
+    """Two refusals at once, each pair, then more. A record that is cut before its set byte has no bad one."""
+    record, lent = entry_record(door, time, 1), lent_bytes(736)
+    place = len(record) - len(lent) - 1
+    # Every bit of the map once, and one where a field is missing
+    maps = [Fault(10, 0, map_turned(bit)) for bit in ((4, 5, 6, 7, 2, 3) if door and time else (7,))]
+    cut = Fault(11, 0, lambda record: record[:place])
+    set_byte = Fault(1, 0, lambda record: with_byte(record, place, 4))
+    longer = Fault(11, 0, lambda record: record + b"0")
+    output = Fault(9, 1, lambda lent: lent[:-1])
+    yield f"# read_record, {in_words(door, time)}: two refusals at once, then more"
+    for two in itertools.product(maps, (cut, set_byte, longer, output)):
+        yield misread(record, lent, *two)
+    for two in ((cut, output), (set_byte, longer), (set_byte, output), (longer, output)):
+        yield misread(record, lent, *two)
+    yield misread(record, lent, set_byte, longer, output)
+    yield misread(record, lent, maps[0], set_byte, longer, output)
+
+
+def read_record_section():
+    def accepted(door, time, number, ciphertext):
+        record, lent = laid_record(door, time, number, ciphertext), lent_bytes(len(ciphertext))
+        return ask("read_record", record, lent, stated=(0, [door, time, number, ciphertext]))
+
+    for number, set in saber.SETS.items():
+        yield f"# read_record, set {number}: door and time missing, each there alone, both there"
+        for door, time in PRESENT:
+            yield accepted(door, time, number, any_ciphertext(number))
+        yield f"# read_record, set {number}: ciphertexts of 0 and of ones"
+        for byte in (0, 255):
+            yield accepted(None, None, number, bytes([byte]) * set.ciphertext)
+    yield "# read_record: doors and times"
+    for door, time in itertools.product((None, *DOORS), (None, *TIMES)):
+        yield accepted(door, time, 1, any_ciphertext(1))
+
+    # Where the map lacks a field, another byte is the set byte: 1 for neither, 4 for a door alone, 2 for a time alone.
+    whole = laid_record(0x0301, 0x0002000000000004, 1, any_ciphertext(1))
+    yield "# read_record: every map, alone, before door, time and set byte, and before a whole record"
+    for bit_map in range(256):
+        answer = {12: 11, 13: 1, 14: 11, 15: 11}.get(bit_map, 10)
+        yield unread(11 if bit_map in range(12, 16) else 10, bytes([bit_map]), lent_bytes(2))
+        yield unread(answer, bytes([bit_map]) + whole[1:12], lent_bytes(2))
+        if bit_map != 15:
+            lent = lent_bytes(736 if bit_map in range(12, 16) else 2)
+            yield unread(answer, bytes([bit_map]) + whole[1:], lent)
+    yield accepted(0x0301, 0x0002000000000004, 1, any_ciphertext(1))
+    yield "# read_record: every set byte, in a record that ends with it"
+    for byte in range(256):
+        yield unread(11 if byte in (1, 2, 3) else 1, bytes([12, byte]), lent_bytes(2))
+
+    for number, (door, time) in itertools.product(saber.SETS, PRESENT):
+        if number > 1 and not (door and time):
+            continue
+        record, size = entry_record(door, time, number), saber.SETS[number].ciphertext
+        place = len(record) - size - 1
+        title = f"read_record, set {number}, {in_words(door, time)}"
+        yield f"# {title}: lengths one under, at and one over where each field ends"
+        ends = {1, 1 + 2 * (door is not None), place, place + 1, len(record)}
+        for length in sorted({end + step for end in ends for step in (-1, 0, 1)} - {len(record)}):
+            yield unread(11 if length else 10, (record + b"0")[:length], lent_bytes(size))
+        yield f"# {title}: bad set bytes, those of other sets, wrong lengths of the output"
+        for byte in (0, 4, 5, 6, 255):
+            yield unread(1, with_byte(record, place, byte), lent_bytes(size))
+        for other in saber.SETS:
+            if other != number:
+                yield unread(11, with_byte(record, place, other), lent_bytes(size))
+                yield unread(11, with_byte(record, place, other), lent_bytes(saber.SETS[other].ciphertext))
+        for length in (0, size - 1, size + 1, saber.SETS[number % 3 + 1].ciphertext):
+            yield unread(9, record, lent_bytes(length))
+    for door, time in PRESENT:
+        yield from read_refusals(door, time)
+    yield "# read_record: an empty record, and an output of none or any length"
+    for length in (0, 1, 736, 737):
+        yield unread(10, b"", lent_bytes(length))
+
+
 def known_answers_section():
     for path in known_answers.FILES.values():
         yield f"# known answers: keygen, encaps and decaps of each entry of {path.name}"
@@ -485,6 +628,8 @@ SECTIONS = {
     "decrypt": decrypt_section,
     "encaps": encaps_section,
     "decaps": decaps_section,
+    "write_record": write_record_section,
+    "read_record": read_record_section,
     "known answers": known_answers_section,
 }
 
@@ -595,6 +740,74 @@ def notation_section():
     )
     yield from unreadable("wrong count", b"pack 5 0000", b"pack 5 - 00 zz", b"public_key_of 4 - x")
     yield from unreadable("unknown call", b"no_such_call x", b"no_such_call 5000000000 0 ")
+    yield from normal()
+
+    yield "# notation: numbers that may be missing"
+    for door, time in ((b"-", b"-"), (b"0", b"-"), (b"-", b"0"), (b"65535", b"18446744073709551615")):
+        yield Line(b"write_record %s %s 4 - a5" % (door, time), b"1 a5")
+    yield Line(b"write_record 00000000000000000000000065535 - 4 - a5", b"1 a5")
+    yield Line(b"write_record - 00000000000000000000018446744073709551615 4 - a5", b"1 a5")
+    yield Line(b"write_record " + b"0" * 5000 + b" " + b"0" * 5000 + b"1 2 - a5", b"6 a5")
+    yield from unreadable(
+        "bad digit",
+        b"write_record -- - 4 - -", b"write_record - -- 4 - -", b"write_record --- - 4 - -",
+        b"write_record -1 - 4 - -", b"write_record - -1 4 - -", b"write_record 1- - 4 - -",
+        b"write_record - 1- 4 - -", b"write_record -0 - 4 - -", b"write_record - +1 4 - -",
+        b"write_record  - 4 - -", b"write_record -  4 - -", b"write_record ", b"write_record - ",
+        b"write_record x - 4 - -", b"write_record - x 4 - -", b"write_record 0x1 - 4 - -",
+        b"write_record - 1.5 4 - -", b"write_record \xe2\x88\x92 - 4 - -", b"write_record \0 - 4 - -",
+        b"write_record -\r - 4 - -", b"write_record - -\t 4 - -", b"write_record - - - - -", b"write_record - - -",
+        b"write_record - - -- - -", b"write_record - -  - -", b"write_record 65536x - 4 - -",
+        b"write_record - 18446744073709551616- 4 - -",
+    )
+    yield from unreadable(
+        "too large",
+        b"write_record 65536 - 4 - -", b"write_record 65537 - 1 - -", b"write_record 131071 - 4 - -",
+        b"write_record 99999 - 4 - -", b"write_record 4294967295 - 4 - -", b"write_record 4294967296 - 4 - -",
+        b"write_record 4294967297 - 4 - -", b"write_record 0065536 - 4 - -",
+        b"write_record 18446744073709551616 - 4 - -", b"write_record 1" + b"0" * 5000 + b" - 4 - -",
+        b"write_record - 18446744073709551616 4 - -", b"write_record - 18446744073709551617 1 - -",
+        b"write_record - 18446744073709551625 4 - -", b"write_record - 18446744078004518912 4 - -",
+        b"write_record - 36893488147419103232 4 - -", b"write_record - 99999999999999999999 4 - -",
+        b"write_record - 100000000000000000000 4 - -", b"write_record - 184467440737095516150 4 - -",
+        b"write_record - 340282366920938463463374607431768211456 4 - -",
+        b"write_record - 0018446744073709551616 4 - -", b"write_record - 1" + b"0" * 5000 + b" 4 - -",
+        b"write_record - - 4294967296 - -", b"write_record 0 0 18446744073709551617 - -",
+    )
+    yield from normal()
+
+    yield "# notation: lines of records, the first fault from the left"
+    yield from unreadable(
+        "bad digit",
+        b"write_record x 18446744073709551616 4 0 0", b"write_record - x 4294967296 0 0", b"write_record x",
+        b"write_record - x", b"write_record - - x", b"write_record - - 4 0g 0", b"write_record - - 4 - 0g",
+        b"read_record 0g -", b"read_record -- -", b"read_record  -", b"read_record ", b"read_record - ",
+        b"read_record - zz", b"read_record - -- -", b"read_record -  -",
+    )
+    yield from unreadable(
+        "too large",
+        b"write_record 65536 x 4 0 0", b"write_record 65536", b"write_record - 18446744073709551616 x 0 0",
+        b"write_record - 18446744073709551616", b"write_record - - 4294967296 0", b"write_record 65536 - 4 - - -",
+    )
+    yield from unreadable(
+        "odd count",
+        b"write_record - - 4 0 -", b"write_record - - 4 - 0", b"write_record 1 2 4 000 zz", b"read_record 0 -",
+        b"read_record - 0", b"read_record 0c0 0", b"read_record zzz -",
+    )
+    yield from unreadable(
+        "wrong count",
+        b"write_record", b"write_record -", b"write_record - -", b"write_record - - 4", b"write_record - - 4 -",
+        b"write_record - - 4 - - -", b"write_record - - 4 - - ", b"read_record", b"read_record -",
+        b"read_record 0c01", b"read_record - - -", b"read_record - - ", b"read_record - - - - -",
+    )
+    yield from unreadable(
+        "unknown call",
+        b"write_record_ - - 4 - -", b"write_recor - - 4 - -", b"Write_record - - 4 - -", b"read_records - -",
+        b"read_recor - -", b"READ_RECORD - -", b"read-record - -", b"record - -", b"write - - 4 - -", b"read - -",
+    )
+    yield Line(b"read_record - -", b"10 - - - -")
+    yield Line(b"read_record 0C04 A5", b"1 - - - a5")
+    yield Line(b"read_record 0c01 a5", b"11 - - - a5")
     yield from normal()
 
     yield "# notation: both cases of hex digits"

@@ -1,4 +1,5 @@
-"""Saber as document 01 reads the submission: what every call writes, and the noise of demand 3.
+"""Saber as document 01 reads the submission: what every call writes, and the noise of demand 3. Records, as document 02
+lays them out.
 
 A polynomial is a list of 256 whole numbers, coefficient 0 first; a vector is a list of polynomials,
 a matrix a list of rows. Byte strings are `bytes`. All of this reckons with sound values only and takes a
@@ -275,6 +276,82 @@ def decaps(set, secret_key, ciphertext):
     if encrypt(set, public_key, m, r) == ciphertext:
         return sha3_256(k + sha3_256(ciphertext))
     return sha3_256(k + z)
+
+
+# Records (A1): a byte with a bit map, then the fields whose bit stands, numbers little-endian
+
+
+class Field(NamedTuple):
+    name: str
+    bit: int
+    length: int | None  # in bytes; None: that of its set's ciphertexts
+    needed: bool
+
+
+FIELDS = (  # in the order in which they stand
+    Field("door", 0, 2, False),
+    Field("time", 1, 8, False),
+    Field("set", 2, 1, True),
+    Field("ciphertext", 3, None, True),
+)
+
+
+def fields_in(map):
+    return [field for field in FIELDS if map >> field.bit & 1]
+
+
+def fields_for(door, time):
+    """The fields of an entry; a door or time of None is missing."""
+    missing = [name for name, number in (("door", door), ("time", time)) if number is None]
+    return [field for field in FIELDS if field.name not in missing]
+
+
+def map_of(fields):
+    return sum(1 << field.bit for field in fields)
+
+
+def is_map(map):
+    """Whether each bit that stands is a field's, and those of the needed fields stand."""
+    fields = fields_in(map)
+    return map == map_of(fields) and all(field in fields for field in FIELDS if field.needed)
+
+
+def record_length(fields, set):
+    return 1 + sum(set.ciphertext if field.length is None else field.length for field in fields)
+
+
+def set_place(map):
+    """Where the set byte stands."""
+    fields = fields_in(map)
+    return record_length(fields[: [field.name for field in fields].index("set")], None)
+
+
+def write_record(door, time, set, ciphertext):
+    """The record of an entry, with the number from 1 on by which the set goes."""
+    [number] = [number for number, row in SETS.items() if row == set]
+    entry = dict(door=door, time=time, set=number, ciphertext=ciphertext)
+    fields = fields_for(door, time)
+    values = [(entry[field.name], field.length) for field in fields]
+    strings = [value if length is None else value.to_bytes(length, "little") for value, length in values]
+    return bytes([map_of(fields)]) + b"".join(strings)
+
+
+def set_in(record):
+    """The set that a record's set byte names. None: its map is none, the byte lacks, or it names none, as 0 does."""
+    if not record or not is_map(record[0]):
+        return None
+    place = set_place(record[0])
+    return SETS.get(record[place]) if place < len(record) else None
+
+
+def read_record(record):
+    """Its entry: door and time, None where they are missing, the set's number and the ciphertext."""
+    entry, at = {}, 1
+    for field in fields_in(record[0]):
+        end = at + (set_in(record).ciphertext if field.length is None else field.length)
+        string, at = record[at:end], end
+        entry[field.name] = string if field.length is None else int.from_bytes(string, "little")
+    return [entry.get(name) for name in ("door", "time", "set", "ciphertext")]
 
 
 # The noise

@@ -1,5 +1,5 @@
 """Material for the tests: values that a label alone decides, damaged strings, what outputs are lent with, secrets
-counted bit by bit, and NIST's published vectors.
+counted bit by bit, records put together by hand, and NIST's published vectors.
 """
 
 import hashlib
@@ -57,6 +57,13 @@ def counted_secret(seed, l, mu):
     """The signed coefficients of a secret, counted in the stream of bits and not by the oracle's sampler."""
     stream, half = bits(hashlib.shake_128(seed).digest(32 * l * mu)), mu // 2
     return [sum(stream[i : i + half]) - sum(stream[i + half : i + mu]) for i in range(0, len(stream), mu)]
+
+
+def laid_record(door, time, number, ciphertext):
+    """A record with its fields one behind the other, laid by hand and not by the oracle's table of them."""
+    bit_map = 12 + (door is not None) + 2 * (time is not None)
+    numbers = (b"" if door is None else struct.pack("<H", door)) + (b"" if time is None else struct.pack("<Q", time))
+    return bytes([bit_map]) + numbers + bytes([number]) + ciphertext
 
 
 def vectors(file):

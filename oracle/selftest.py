@@ -1,4 +1,4 @@
-"""Tests of the oracle: the cases of document 01, NIST's vectors, and what the papers say must hold.
+"""Tests of the oracle: the cases of document 01, NIST's vectors, records, and what the papers say must hold.
 
     python3 oracle/selftest.py
 """
@@ -11,7 +11,8 @@ import drbg
 import notation
 import saber
 from calls import CALLS, run
-from samples import NIST_FILES, bits, counted_secret, draw, draw_list, flipped, monomial, vectors
+from samples import NIST_FILES, bits, counted_secret, draw, draw_list, flipped, laid_record, lent_bytes, monomial
+from samples import vectors
 
 counts = {"checks": 0, "failed": 0}
 
@@ -282,7 +283,8 @@ def damaged(number):
 def refusals():
     """Each refusal alone and each two together: the earlier is the answer, and no output changes.
 
-    The faults are stated here a second time, so that a slip in the table of calls shows.
+    The faults are stated here a second time, so that a slip in the table of calls shows. Those of read_record, whose
+    questions have an order of their own, are in `readings`.
     """
     light = saber.SETS[1]
     seed, full = bytes(32), [0] * 256
@@ -342,6 +344,10 @@ def refusals():
             [10, bytes(320), full],
             (0, 1024, 2), (1, bytes(319), 7), (2, full[1:], 9),
         ),
+        "write_record": (
+            [5, None, 1, ciphertext, bytes(740)],
+            (2, 4, 1), (3, ciphertext[1:], 6), (4, bytes(739), 9),
+        ),
         "sha3_256": (
             [b"", seed],
             (1, bytes(31), 9), (1, b"", 9),
@@ -352,7 +358,7 @@ def refusals():
         ),
     }
     refusing = {name for name, call in CALLS.items() if 9 in call.questions}
-    check("every call that answers with a refusal is tested", tests.keys() == refusing)
+    check("every call that answers with a refusal is tested", tests.keys() | {"read_record"} == refusing)
     for name, (sound, *faults) in tests.items():
         call = CALLS[name]
         asked = {(place, p.question) for place, p in enumerate(call.parameters) if p.question}
@@ -370,6 +376,90 @@ def refusals():
             check(f"{name}: refused with {expected}", run(name, *arguments) == (expected, outputs))
     for number, size in ((4, 1568), (1, 1567), (1, 1569), (1, 0), (2, 1568), (0, 1568), (3, 2304)):
         check(f"lookup: {number}, {size} bytes", run("public_key_of", number, bytes(size)) == (None, [b""]))
+
+
+SIZES = {1: 736, 2: 1088, 3: 1472}  # of a ciphertext
+DOORS, TIMES = (None, 0, 1, 255, 256, 0x1234, 65535), (None, 0, 1, 255, 1 << 32, 1 << 63, (1 << 64) - 1)
+
+
+def records():
+    """A1's layout in figures, and that reading and writing undo each other."""
+    door, time = 0x1234, 0x0102030405060708
+    for number, stored in ((0, "02"), (1, "01"), (2, "02"), (3, "03")):
+        size = SIZES[int(stored)]
+        ciphertext = draw(f"selftest record {number}", size)
+        for entry, start, length in (
+            ((None, None), "0c", size + 2),
+            ((door, None), "0d3412", size + 4),
+            ((None, time), "0e0807060504030201", size + 10),
+            ((door, time), "0f34120807060504030201", size + 12),
+            ((0, 0), "0f00000000000000000000", size + 12),
+            ((65535, 2**64 - 1), "0fffffffffffffffffffff", size + 12),
+        ):
+            record = bytes.fromhex(start + stored) + ciphertext
+            written = run("write_record", *entry, number, ciphertext, bytes(length))
+            check(f"set {number}, {entry}: record", written == (0, [record]))
+            read = run("read_record", record, bytes(size))
+            check(f"set {number}, {entry}: entry", read == (0, [*entry, int(stored), ciphertext]))
+            for wrong in (0, length - 1, length + 1):
+                refused = run("write_record", *entry, number, ciphertext, bytes(wrong))
+                check(f"set {number}, {entry}: {wrong} bytes", refused == (9, [bytes(wrong)]))
+
+    for entry in itertools.product(DOORS, TIMES, SIZES):
+        ciphertext = draw(f"selftest entry {entry}", SIZES[entry[2]])
+        record = laid_record(*entry, ciphertext)
+        check(f"{entry}: written", run("write_record", *entry, ciphertext, bytes(len(record))) == (0, [record]))
+        check(f"{entry}: read", run("read_record", record, bytes(len(ciphertext))) == (0, [*entry, ciphertext]))
+
+
+def refusal_of(record, lent):
+    """The reader's answer, from the request's sentences alone."""
+    if not record or record[0] & 0xF0 or not record[0] & 4 or not record[0] & 8:
+        return 10
+    place = 1 + 2 * (record[0] & 1) + 4 * (record[0] & 2)
+    if len(record) <= place:
+        return 11
+    if record[place] not in SIZES:
+        return 1
+    if len(record) != place + 1 + SIZES[record[place]]:
+        return 11
+    return 9 if lent != SIZES[record[place]] else 0
+
+
+def readings():
+    """Every refusal of a read: cases in figures, then every map and many lengths, set bytes and outputs at once."""
+    check("read_record: its questions in order", CALLS["read_record"].questions == (10, 11, 1, 11, 9))
+
+    def reads(record, lent, answer):
+        read = run("read_record", record, lent_bytes(lent))
+        refused = (answer, [None, None, None, lent_bytes(lent)])
+        check(f"reading {record[:12].hex()}, {len(record)} bytes, to {lent}", read == refused)
+
+    for start, length, lent, answer in (
+        ("", 0, 736, 10), ("00", 1, 0, 10), ("04", 1, 0, 10), ("08", 1, 0, 10), ("1c01", 738, 736, 10),
+        ("2c01", 738, 736, 10), ("4c01", 738, 736, 10), ("8c01", 738, 736, 10), ("0401", 738, 736, 10),
+        ("0801", 738, 736, 10), ("ff", 748, 736, 10), ("0c", 1, 736, 11), ("0d", 3, 736, 11), ("0e", 9, 736, 11),
+        ("0f", 11, 736, 11), ("0c00", 738, 736, 1), ("0c04", 738, 736, 1), ("0cff", 738, 736, 1), ("0d", 4, 736, 1),
+        ("0e", 10, 736, 1), ("0f", 12, 736, 1), ("0c01", 2, 736, 11), ("0c01", 737, 736, 11), ("0c01", 739, 736, 11),
+        ("0c02", 738, 736, 11), ("0c01", 1090, 1088, 11), ("0c01", 738, 735, 9), ("0c01", 738, 737, 9),
+        ("0c01", 738, 0, 9), ("0c01", 738, 1088, 9), ("0f0100000000000000000003", 1484, 1471, 9),
+        # two at once
+        ("", 0, 5, 10), ("1c", 1, 5, 10), ("0405", 738, 736, 10), ("1c01", 739, 736, 10), ("0c", 1, 5, 11),
+        ("0c04", 739, 736, 1), ("0c04", 738, 5, 1), ("0c01", 739, 5, 11),
+    ):
+        reads(bytes.fromhex(start).ljust(length, b"\0"), lent, answer)
+
+    for bit_map, byte, size in itertools.product(range(256), (0, 1, 2, 3, 4, 255), SIZES.values()):
+        whole = bytes([bit_map]) + bytes([byte]) * 11 + draw("selftest reading", size)
+        for length, lent in ((1, size), (2, size), (12, size), (size + 2, size), (size + 12, size), (size + 12, 5)):
+            record = whole[:length]
+            answer = refusal_of(record, lent)
+            if answer:
+                reads(record, lent, answer)
+            else:
+                entry = run("read_record", record, lent_bytes(lent))
+                again = run("write_record", *entry[1], bytes(length))
+                check(f"map {bit_map}, {length} bytes: write after read", (entry[0], again) == (0, (0, [record])))
 
 
 def limits():
@@ -397,13 +487,14 @@ def lines():
         (b"pack 5 - a5\r\n", b"error odd count\n"),
         (b"public_key_of 4 -\n", b"-\n"),
         (b"shake128 00 -\n", b"0 -\n"),
+        (b"read_record - a5\n", b"10 - - - a5\n"),
     ):
         check(f"lines {requests!r}", notation.answer_lines(requests) == answers)
 
 
 def main():
     parts = (cases, hashes, random_bytes, packing, ring, rounding, sampling, margin, small_noise)
-    for part in (*parts, refusals, limits, lines):
+    for part in (*parts, refusals, records, readings, limits, lines):
         part()
     for number in saber.NUMBERS:
         in_place(number)

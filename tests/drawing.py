@@ -2,9 +2,14 @@
 
 import argparse
 import random
+import sys
 from pathlib import Path
 
 ROOT = Path(__file__).resolve().parent.parent
+sys.path.insert(0, str(ROOT / "oracle"))
+
+from calls import CALLS
+
 RATES = (168, 136, 72)
 
 
@@ -31,24 +36,45 @@ def any_length(draw):
     return draw.choice(RATES) * draw.randrange(1, 5) + draw.randrange(-1, 2)
 
 
-def sound_arguments(draw, call, numbers=None, made=lambda meaning: {}):
+def any_number(draw, bits):
+    """A number of so many bits, often at an edge."""
+    return draw.choice((0, 1, 255, 256, 1 << draw.randrange(bits), (1 << bits) - 1, draw.getrandbits(bits)))
+
+
+def any_content(draw, value):
+    """A string or list of the same length with any content."""
+    return draw.randbytes(len(value)) if isinstance(value, bytes) else coefficients(draw, 1 << 16, len(value))
+
+
+def sound_record(draw, sets, made):
+    """The record of an entry."""
+    call = CALLS["write_record"]
+    _, [record] = call.run(*sound_arguments(draw, call, sets, made))
+    return record
+
+
+def sound_arguments(draw, call, sets=None, made=lambda set: {}):
     """Arguments of a call that no question refuses.
 
-    Its number is one of `numbers`, where these are given. `made` gives values by name for what the number means, and
-    all others are drawn.
+    Its set number is one of `sets`, where these are given. `made` gives values by name for a set, and all others are
+    drawn.
     """
-    number = next((draw.choice(numbers or [*p.role.meanings]) for p in call.inputs if p.role.kind == "number"), None)
-    meaning = call.meaning([number])
-    values = made(meaning)
-
-    def value(parameter):
-        role = parameter.role
+    arguments, values = [], {}
+    for place, parameter in enumerate(call.parameters):
+        role, given = parameter.role, call.given(arguments)
         if role.kind == "number":
-            return number
-        if parameter.name in values:
-            return values[parameter.name]
-        length = role.size(meaning)
-        length = any_length(draw) if length is None else length
-        return draw.randbytes(length) if role.kind == "bytes" else coefficients(draw, role.limit(meaning), length)
-
-    return [value(parameter) for parameter in call.parameters]
+            value = draw.choice(sets if sets and parameter.name == "set" else [*role.meanings])
+        elif role.kind == "optional":
+            value = draw.choice((None, any_number(draw, role.bits)))
+        elif parameter.name in values:
+            value = values[parameter.name]
+        elif parameter.name == "record" and place < len(call.inputs):
+            value = sound_record(draw, sets, made)
+        else:
+            length = role.size(given)
+            length = any_length(draw) if length is None else length
+            value = draw.randbytes(length) if role.kind == "bytes" else coefficients(draw, role.limit(given), length)
+        arguments.append(value)
+        if parameter.name == "set":
+            values = made(call.given(arguments).set)
+    return arguments

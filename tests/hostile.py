@@ -13,16 +13,15 @@ import subprocess
 import sys
 from collections import Counter
 
-from drawing import ROOT, options, sound_arguments
-
-sys.path.insert(0, str(ROOT / "oracle"))
+from drawing import options, sound_arguments
 
 import notation
 from calls import CALLS
 
 LIMIT = notation.LONGEST
 NEAR = b"0123456789abcdefABCDEFg- #\t\r\0\xff"
-WORDS = b"- -- 00 000 0000 1 2 3 13 0000000000000000001 4294967295 4294967296 99999999999".split()
+WORDS = b"- -- 00 000 0000 1 2 3 13 0000000000000000001 4294967295 4294967296 99999999999 65535 65536".split()
+WORDS += b"18446744073709551615 18446744073709551616 0c 0c01 0d000003 0f".split()
 SECONDS = 60
 
 
@@ -31,11 +30,7 @@ SECONDS = 60
 
 def sound_requests(draw):
     """A request to each call, with the least set, so that what a run answers fits a pipe."""
-    numbers = {"set": [1]}
-    return [
-        notation.write_request(name, *sound_arguments(draw, call, numbers.get(call.inputs[0].name)))
-        for name, call in CALLS.items()
-    ]
+    return [notation.write_request(name, *sound_arguments(draw, call, sets=[1])) for name, call in CALLS.items()]
 
 
 def any_bytes(draw):
@@ -110,7 +105,7 @@ def kind_of(answer):
     word = answer.split(b" ")[0]
     if word == b"error":
         return answer.decode()
-    return word.decode() if word.isdigit() and len(word) == 1 else "part"
+    return word.decode() if word.isdigit() and len(word) < 3 else "part"
 
 
 class Trial:

@@ -8,7 +8,8 @@ lists of calls in tests/stack.c and tests/secrets.c. Then each text is changed i
 order of two parameters or by a declaration, and every change has to be found. It exits with 1 on a difference.
 
 What is compared are dictionaries. A function has an entry for its result and one for each parameter as C passes it, in
-Rust's words: a slice is a pointer, as `*const u8` or `*mut u16`, and a count.
+Rust's words: a slice is a pointer, as `*const u8` or `*mut u16`, and a count. A number that may be missing is a flag
+and the number, and a number that is handed back is lent.
 """
 
 import functools
@@ -27,7 +28,7 @@ LIBRARY, HEADER, PACKAGE = "crates/saber/src/lib.rt", "include/saber.h", "bindin
 STACK, SECRETS = "tests/stack.c", "tests/secrets.c"
 NAMES = {number: name.upper() for number, name in saber.NAMES.items()}
 SIZES = ("public_key", "secret_key", "plain_secret", "ciphertext")  # of a set, in bytes
-KINDS = {"number": "u32", "bytes": "&[u8]", "list": "&[u16]"}  # the types of inputs
+ELEMENTS = {"bytes": "[u8]", "list": "[u16]"}
 
 
 class Unreadable(Exception):
@@ -77,6 +78,8 @@ def refusals():
         "input_length": answer("pack", 1, [], b""),
         "coefficient_range": answer("pack", 1, [2] * saber.N, b""),
         "output_length": answer("pack", 1, [1] * saber.N, b""),
+        "record_map": answer("read_record", b"", b""),
+        "record_length": answer("read_record", bytes([12]), b""),
     }
 
 
@@ -123,16 +126,25 @@ def sentences():
         return f"{', '.join(first)} or {last}"
 
     return [
-        f"the set number is not {listed([0, *saber.SETS])}",
+        f"the set number is not {listed([0, *saber.SETS])}, or a record's set byte not {listed(saber.SETS)}",
         f"the packing width is not {listed(saber.WIDTHS)}, or the modulus not {listed(saber.MODULI)}",
         f"0 means the same as {saber.DEFAULT}",
     ]
 
 
+def typed(parameter, lent):
+    """Name and type of a parameter: one that may be missing is two, a flag and a number."""
+    name, role = parameter.name, parameter.role
+    if role.kind in ELEMENTS:
+        return [(name, ("&mut " if lent else "&") + ELEMENTS[role.kind])]
+    flag = [(f"has_{name}", "u8")] if role.kind == "optional" else []
+    return [(name, ("&mut " if lent else "") + type) for name, type in [*flag, (name, f"u{role.bits}")]]
+
+
 def signature(call):
-    """Names and types, outputs last."""
-    inputs = [(p.name, KINDS[p.role.kind]) for p in call.inputs]
-    return inputs + [(p.name, "&mut " + KINDS[p.role.kind].removeprefix("&")) for p in call.outputs]
+    """Names and types, outputs last, numbers that are handed back before them."""
+    inputs = [pair for p in call.inputs for pair in typed(p, lent=False)]
+    return inputs + [pair for p in call.handed + call.outputs for pair in typed(p, lent=True)]
 
 
 def in_words(pairs):
@@ -237,7 +249,8 @@ def expected_of_header(functions):
 
 # The package
 
-# What its macro makes of a row, which names a number, inputs and outputs: declaration, safe function and call.
+# What its macro makes of a row, which names a number, inputs and outputs: declaration, safe function and call. Calls
+# with numbers that may be missing or are handed back are written out.
 MACRO = (
     "$(fn $export($($number: u32,)? $($input: *const $from, _: usize,)+ $($output: *mut $to, _: usize),+) -> u8;)+",
     "pub fn $name($($number: u32,)? $($input: &[$from],)+ $($output: &mut [$to]),+) -> Result<(), Refusal> {",
@@ -246,10 +259,17 @@ MACRO = (
 ROW = r"(\w+) = (\w+) \[(\w*)\] \(([^)]*)\) => \(([^)]*)\);"
 DECLARED = r"    fn (saber_\w+)\(([^)]*)\) -> (\w+);"
 SAFE = r"\npub fn (\w+)\(([^)]*)\) -> (.*) \{"
+CALLED = r"unsafe \{\s*(saber_\w+)\(((?:[^()]|\([^()]*\))*)\)\s*\}"
+FIELDS = r"pub struct Entry \{([^}]*)\}"
+VALUES = r"Ok\(Entry \{([^}]*)\}\)"
 NUMBER = r"pub const (\w+): usize = (\d+);"
 SET = r"pub const (\w+): Set = Set \{([^}]*)\};"
 REFUSAL = r"pub enum Refusal \{([^}]*)\}"
 ANSWER = r"(\d+) => ([^,]*),"
+
+
+def numbered(what, listed):
+    return {f"{what}, {i}": item for i, item in enumerate(listed, 1)}
 
 
 def package_entries(text):
@@ -267,14 +287,59 @@ def package_entries(text):
         found |= {f"what {name} calls": export} | entries(export, passed(parameters), "u8")
     for name, parameters, result in re.findall(DECLARED, text) + re.findall(SAFE, text):
         found |= entries(name, items(parameters), result)
+    for name, arguments in re.findall(CALLED, text):
+        found |= numbered(f"argument to {name}", items(arguments))
+    for form, what in ((FIELDS, "field of Entry"), (VALUES, "value of Entry")):
+        for listed in re.findall(form, text):
+            found |= numbered(what, items(listed))
     for name in re.findall(r"\bsaber_\w+", text):
         found.setdefault(f"result of {name}", "not declared")
     return found
 
 
+def is_optional(parameter):
+    return parameter.role.kind == "optional"
+
+
+def safe_type(parameter, lent):
+    """The type of a parameter, or of a number handed back, in the package's own functions."""
+    *_, (_, type) = typed(parameter, lent)
+    return f"Option<{type}>" if is_optional(parameter) else type
+
+
+def passed_on(parameter, lent):
+    """What such a function passes on for it."""
+    name = parameter.name
+    if parameter.role.kind in ELEMENTS:
+        return [f"{name}.as_mut_ptr()" if lent else f"{name}.as_ptr()", f"{name}.len()"]
+    if lent:
+        return [f"&mut {name}" for name, _ in typed(parameter, lent)]
+    return [f"{name}.is_some().into()", f"{name}.unwrap_or(0)"] if is_optional(parameter) else [name]
+
+
+def handed_back(parameter):
+    name = parameter.name
+    return f"{name}: (has_{name} != 0).then_some({name})" if is_optional(parameter) else name
+
+
+def written_out(call):
+    """A function that is written out: its types, what it passes on, and what it makes of the numbers handed back."""
+    inputs, outputs = [(p, False) for p in call.inputs], [(p, True) for p in call.outputs]
+    lent = [(p, True) for p in call.handed] + outputs
+    parameters = [(p.name, safe_type(p, lent)) for p, lent in inputs + outputs]
+    found = entries(call.name, in_words(parameters), f"Result<{'Entry' if call.handed else '()'}, Refusal>")
+    found |= numbered(f"argument to {call.exports[0]}", [word for pair in inputs + lent for word in passed_on(*pair)])
+    found |= numbered("field of Entry", [f"pub {p.name}: {safe_type(p, lent=False)}" for p in call.handed])
+    return found | numbered("value of Entry", map(handed_back, call.handed))
+
+
 def expected_of_package(functions):
     found = {f"macro, line {i}": line for i, line in enumerate(MACRO, 1)}
-    found |= {f"what {call.name} calls": call.exports[0] for call in CALLS.values() if call.outputs}
+    for call in CALLS.values():
+        if call.handed or any(map(is_optional, call.inputs)):
+            found |= written_out(call)
+        elif call.outputs:
+            found[f"what {call.name} calls"] = call.exports[0]
     for call in lookups():
         found |= entries(call.name, in_words(signature(call)), "&[u8]")
     return found | package_constants() | passed_entries(functions)
@@ -344,7 +409,9 @@ def differences(codes):
 PARTS = {
     LIBRARY: EXPORT,
     HEADER: r"enum[^}]*\};|[\w ]+ \*?\w+\([^)]*\)(?:;|(?= \{))",
-    PACKAGE: "|".join([*map(re.escape, MACRO), ROW, DECLARED, SAFE, NUMBER, SET, REFUSAL, ANSWER]),
+    PACKAGE: "|".join(
+        [*map(re.escape, MACRO), ROW, DECLARED, SAFE, CALLED, FIELDS, VALUES, NUMBER, SET, REFUSAL, ANSWER]
+    ),
 }
 TOKEN = re.compile(r"\b(?:\d+|u?int\d+_t|[ui]\d+|size_t|usize)\b|\*(?:const|mut) |\bconst |&mut |&\[")
 OTHER = {"size_t": "uint32_t", "usize": "u32", "const ": "", "*const ": "*mut ", "*mut ": "*const "}

@@ -1,5 +1,6 @@
-// A round trip of every set through the C interface, and hashes of nothing and to nothing, for valgrind too: each
-// buffer is a block of its own with exactly the bytes needed, and outputs are lent uninitialised.
+// A round trip of every set through the C interface, with its ciphertext put into a record and read out of it, and
+// hashes of nothing and to nothing, for valgrind too: each buffer is a block of its own with exactly the bytes needed,
+// and outputs are lent uninitialised.
 #include "check.h"
 #include "sets.h"
 #include <stdio.h>
@@ -22,6 +23,29 @@ static uint8_t *seed_of(uint8_t first) {
     return seed;
 }
 
+// A record with a door, and with a time or without.
+static void record_trip(uint32_t number, const uint8_t *ciphertext, size_t ct, uint8_t timed) {
+    const size_t count = 4 + 8 * timed + ct;
+    uint8_t *record = block(count), *copy = block(ct), has_door = 9, has_time = 9;
+    uint16_t door = 9;
+    uint64_t time = 9;
+    uint32_t set = 9;
+    CHECK(saber_write_record(1, 0x0102, timed, UINT64_MAX, number, ciphertext, ct, record, count) == SABER_OK);
+    CHECK(record[0] == (timed ? 15 : 13) && record[1] == 2 && record[2] == 1);
+    CHECK(memcmp(record + count - ct, ciphertext, ct) == 0);
+
+    // A refusal leaves all as it was; so is the time where it is missing.
+    CHECK(saber_read_record(record, 0, &has_door, &door, &has_time, &time, &set, copy, ct) == SABER_RECORD_MAP);
+    CHECK(saber_read_record(record, 3, &has_door, &door, &has_time, &time, &set, copy, ct) == SABER_RECORD_LENGTH);
+    CHECK(saber_read_record(record, count, &has_door, &door, &has_time, &time, &set, copy, 0) == SABER_OUTPUT_LENGTH);
+    CHECK(has_door == 9 && door == 9 && has_time == 9 && time == 9 && set == 9);
+    CHECK(saber_read_record(record, count, &has_door, &door, &has_time, &time, &set, copy, ct) == SABER_OK);
+    CHECK(has_door == 1 && door == 0x0102 && has_time == timed && time == (timed ? UINT64_MAX : 9));
+    CHECK(set == (number == 0 ? 2 : number) && memcmp(copy, ciphertext, ct) == 0);
+    free(record);
+    free(copy);
+}
+
 static void round_trip(uint32_t number) {
     const size_t pk = sets[number].public_key, sk = sets[number].secret_key, ct = sets[number].ciphertext;
     const size_t plain = sets[number].plain_secret;
@@ -34,6 +58,8 @@ static void round_trip(uint32_t number) {
     CHECK(saber_encaps(number, public_key, pk, seed, SEED, ciphertext, ct, sent, SECRET) == SABER_OK);
     CHECK(saber_decaps(number, secret_key, sk, ciphertext, ct, received, SECRET) == SABER_OK);
     CHECK(memcmp(sent, received, SECRET) == 0);
+    record_trip(number, ciphertext, ct, 0);
+    record_trip(number, ciphertext, ct, 1);
 
     // The message that encapsulation seals is the hash of its seed.
     CHECK(saber_decrypt(number, secret_key, plain, ciphertext, ct, message, MESSAGE) == SABER_OK);
@@ -58,7 +84,7 @@ static void round_trip(uint32_t number) {
                          ciphertext,  sent,        received, message, hashed};
     for (size_t i = 0; i < sizeof blocks / sizeof *blocks; i++)
         free(blocks[i]);
-    printf("%u %s: round trip\n", (unsigned)number, sets[number].name);
+    printf("%u %s: round trip, records\n", (unsigned)number, sets[number].name);
 }
 
 // SHA3-256 of no bytes, the first of NIST's vectors.

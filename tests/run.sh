@@ -59,6 +59,7 @@ test_with valgrind 'jumps and addresses that depend on secrets' python3 tests/se
 test_of 'the stack test, built' c99 stack tests/stack.c
 test_of 'what the calls leave on the stack' "$work/stack"
 test_of 'random calls against the oracle' python3 tests/differential.py
+test_of 'records, sound and mutated, against the oracle' python3 tests/records.py
 test_of 'the plain implementation on the known answers' python3 tests/plain.py
 test_of 'the comparison with the plain implementation, built' c99 agree tests/agree.c oracle/plain.c
 test_of 'random calls against the plain implementation' "$work/agree" 2000

@@ -1,10 +1,11 @@
 // secrets SET: every call on content that is marked as undefined, for valgrind's memcheck, which then reports each
 // jump and each address that depends on it. tests/secrets.py runs this and holds the reports against a list.
 //
-// Seeds, messages, hash inputs and coefficients are marked; keys and ciphertexts are what the calls make of them, the
-// public ones too. Outputs are lent defined, so what is undefined afterwards came from a mark: each of their elements
-// has to be, and no answer may be but where Q8 asks about content. Prints each call with the number of reports that it
-// gave. tests/interface.py holds the calls, and what their answers follow from, against the oracle's table.
+// Seeds, messages, hash inputs, coefficients, and doors and times of records are marked; keys and ciphertexts are what
+// the calls make of them, the public ones too. Outputs are lent defined, so what is undefined afterwards came from a
+// mark: each of their elements has to be, all but a record's map and set bytes, from which a reader's answer follows.
+// No answer may be but where Q8 asks about content. Prints each call with the number of reports that it gave.
+// tests/interface.py holds the calls, and what their answers follow from, against the oracle's table.
 #include "check.h"
 #include "sets.h"
 #include <stdio.h>
@@ -28,7 +29,8 @@ static size_t undefined(const void *elements, size_t count, size_t size) {
 #define ALL_SECRET(elements, count) CHECK(undefined(elements, count, sizeof *(elements)) == (count))
 #define NONE_SECRET(elements, count) CHECK(undefined(elements, count, sizeof *(elements)) == 0)
 
-// What an answer follows from: set number and lengths alone, or the content too where Q8 asks about it.
+// What an answer follows from: what is not marked, set numbers, lengths and the two bytes of a record, or the content
+// too where Q8 asks about it.
 enum { BY_LENGTHS, BY_CONTENT };
 
 #define ANSWERS(number, by, name, ...)                            \
@@ -137,6 +139,44 @@ static void layers(uint32_t set) {
     }
 }
 
+// Records with and without a door and a time.
+static void records(uint32_t set) {
+    static uint8_t record[12 + FIRESABER_CIPHERTEXT_BYTES];
+    size_t ct = sets[set].ciphertext;
+    for (uint8_t fields = 0; fields < 4; fields++) {
+        uint8_t has_door = fields & 1, has_time = fields >> 1, has[2] = {0};
+        uint16_t door = 5, door_read = 0;
+        uint64_t time = 7, time_read = 0;
+        uint32_t set_read = 0;
+        size_t start = 2 + 2 * has_door + 8 * has_time, count = start + ct; // where the ciphertext starts, and all
+        VALGRIND_MAKE_MEM_UNDEFINED(&door, sizeof door);
+        VALGRIND_MAKE_MEM_UNDEFINED(&time, sizeof time);
+        mark_bytes(ciphertext, ct);
+        VALGRIND_MAKE_MEM_DEFINED(record, count);
+        ANSWERS(SABER_OUTPUT_LENGTH, BY_LENGTHS, write_record, has_door, door, has_time, time, set, ciphertext, ct,
+                record, count - 1);
+        NONE_SECRET(record, count);
+        ANSWERS(SABER_OK, BY_LENGTHS, write_record, has_door, door, has_time, time, set, ciphertext, ct, record, count);
+        NONE_SECRET(record, 1);
+        ALL_SECRET(record + 1, start - 2);
+        NONE_SECRET(record + start - 1, 1);
+        ALL_SECRET(record + start, ct);
+
+        VALGRIND_MAKE_MEM_DEFINED(ciphertext, ct);
+        ANSWERS(SABER_OUTPUT_LENGTH, BY_LENGTHS, read_record, record, count, &has[0], &door_read, &has[1], &time_read,
+                &set_read, ciphertext, ct - 1);
+        NONE_SECRET(ciphertext, ct);
+        NONE_SECRET(&door_read, 1);
+        NONE_SECRET(&time_read, 1);
+        WRITES(ciphertext, ct, BY_LENGTHS, read_record, record, count, &has[0], &door_read, &has[1], &time_read,
+               &set_read);
+        NONE_SECRET(has, 2);
+        NONE_SECRET(&set_read, 1);
+        CHECK(undefined(&door_read, 1, sizeof door_read) == has_door);
+        CHECK(undefined(&time_read, 1, sizeof time_read) == has_time);
+    }
+}
+
 // Inputs about every rate. The hash of no bytes depends on no mark.
 static void hashes(void) {
     static uint8_t input[200], output[200];
@@ -158,6 +198,7 @@ int main(int count, char **words) {
     }
     scheme(set);
     layers(set);
+    records(set);
     hashes();
     control_jump(seeds[0]);
     control_address(seeds[0]);

@@ -12,6 +12,10 @@ enum { OWN = 64 }; // bytes at the top for the frames of this program itself
 static uint8_t seeds[4][32], public_key[FIRESABER_PUBLIC_KEY_BYTES], secret_key[FIRESABER_SECRET_KEY_BYTES];
 static uint8_t ciphertext[FIRESABER_CIPHERTEXT_BYTES], message[32], bytes[416], digest[64];
 static uint16_t matrix[16 * SABER_N], secret[4 * SABER_N], a[SABER_N], b[SABER_N], c[SABER_N];
+static uint8_t record[12 + FIRESABER_CIPHERTEXT_BYTES], has_door, has_time;
+static uint16_t door;
+static uint64_t hour;
+static uint32_t number;
 
 // Every call that writes something; tests/interface.py holds the list against the oracle's table.
 #define ALL(x) x, sizeof(x) / sizeof *(x)
@@ -31,7 +35,9 @@ static uint16_t matrix[16 * SABER_N], secret[4 * SABER_N], a[SABER_N], b[SABER_N
     DO(unpack, 13, ALL(bytes), ALL(a))                                                             \
     DO(shake128, ALL(secret_key), ALL(bytes))                                                      \
     DO(sha3_256, ALL(secret_key), digest, 32)                                                      \
-    DO(sha3_512, ALL(secret_key), ALL(digest))
+    DO(sha3_512, ALL(secret_key), ALL(digest))                                                     \
+    DO(write_record, 1, 2, 1, 3, SET, ALL(ciphertext), ALL(record))                                \
+    DO(read_record, ALL(record), &has_door, &door, &has_time, &hour, &number, ALL(ciphertext))
 
 #define DEFINE(name, ...) \
     static uint8_t call_##name(void) { return saber_##name(__VA_ARGS__); }

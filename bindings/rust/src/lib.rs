@@ -36,7 +36,7 @@ pub const SEED: usize = 32;
 /// Coefficients of a polynomial.
 pub const N: usize = 256;
 
-/// Why a call was refused: the first of these that applies.
+/// Why a call was refused: the first of these that applies; [`read_record`] has an order of its own.
 #[derive(Clone, Copy, Debug, PartialEq, Eq)]
 #[repr(u8)]
 pub enum Refusal {
@@ -49,12 +49,14 @@ pub enum Refusal {
     InputLength = 7,
     CoefficientRange = 8,
     OutputLength = 9,
+    RecordMap = 10,
+    RecordLength = 11,
 }
 
 impl fmt::Display for Refusal {
     fn fmt(&self, f: &mut fmt::Formatter) -> fmt::Result {
         f.write_str(match self {
-            Refusal::UnknownSet => "the set number is not 0, 1, 2 or 3",
+            Refusal::UnknownSet => "the set number is not 0, 1, 2 or 3, or a record's set byte not 1, 2 or 3",
             Refusal::UnknownNumber => "the packing width is not 1, 3, 4, 6, 10 or 13, or the modulus not 1024 or 8192",
             Refusal::SeedLength => "a seed, z or a message is not 32 bytes",
             Refusal::PublicKeyLength => "the public key has not its set's length",
@@ -63,6 +65,8 @@ impl fmt::Display for Refusal {
             Refusal::InputLength => "an input list is not 256 coefficients, or a string to unpack not 32 x width bytes",
             Refusal::CoefficientRange => "a coefficient is not below its modulus",
             Refusal::OutputLength => "an output has not the length of its result",
+            Refusal::RecordMap => "the record is empty, or its map has bits that no field has or lacks set or ciphertext",
+            Refusal::RecordLength => "the record has not the length that its map and set byte require",
         })
     }
 }
@@ -81,6 +85,8 @@ fn result(answer: u8) -> Result<(), Refusal> {
         7 => Refusal::InputLength,
         8 => Refusal::CoefficientRange,
         9 => Refusal::OutputLength,
+        10 => Refusal::RecordMap,
+        11 => Refusal::RecordLength,
         _ => unreachable!("no call answers {answer}"),
     })
 }
@@ -153,4 +159,79 @@ pub fn public_key_of(set: u32, secret_key: &[u8]) -> &[u8] {
     // SAFETY: both functions only reckon with the two numbers.
     let (offset, length) = unsafe { (saber_public_key_offset(set, secret_key.len()), saber_public_key_length(set, secret_key.len())) };
     &secret_key[offset..offset + length]
+}
+
+extern "C" {
+    fn saber_write_record(
+        has_door: u8,
+        door: u16,
+        has_time: u8,
+        time: u64,
+        set: u32,
+        ciphertext: *const u8,
+        ciphertext_count: usize,
+        record: *mut u8,
+        record_count: usize,
+    ) -> u8;
+    fn saber_read_record(
+        record: *const u8,
+        record_count: usize,
+        has_door: *mut u8,
+        door: *mut u16,
+        has_time: *mut u8,
+        time: *mut u64,
+        set: *mut u32,
+        ciphertext: *mut u8,
+        ciphertext_count: usize,
+    ) -> u8;
+}
+
+/// What a record holds besides its ciphertext. The set's number is 1, 2 or 3.
+#[derive(Clone, Copy, Debug, PartialEq, Eq)]
+pub struct Entry {
+    pub door: Option<u16>,
+    pub time: Option<u64>,
+    pub set: u32,
+}
+
+/// Writes the record of an entry: a byte with a bit map, then door (2 bytes), time (8 bytes), set (1 byte) and ciphertext, low bytes first.
+/// A missing door or time takes no bytes, so that a record has 2 bytes, 2 more with a door, 8 more with a time, and the ciphertext. Set 0
+/// is stored as the set that it means. Writing and [`read_record`] undo each other.
+pub fn write_record(door: Option<u16>, time: Option<u64>, set: u32, ciphertext: &[u8], record: &mut [u8]) -> Result<(), Refusal> {
+    // SAFETY: as for the calls above.
+    result(unsafe {
+        saber_write_record(
+            door.is_some().into(),
+            door.unwrap_or(0),
+            time.is_some().into(),
+            time.unwrap_or(0),
+            set,
+            ciphertext.as_ptr(),
+            ciphertext.len(),
+            record.as_mut_ptr(),
+            record.len(),
+        )
+    })
+}
+
+/// Reads a record and copies its ciphertext out. The ciphertext has the record's length less 2, less 2 more if `record[0]` has bit 0, less
+/// 8 more if it has bit 1; where there is no such length the read is refused. Asked are, in this order: the map, whether there is a set
+/// byte, that byte, the record's length and the ciphertext's.
+pub fn read_record(record: &[u8], ciphertext: &mut [u8]) -> Result<Entry, Refusal> {
+    let (mut has_door, mut door, mut has_time, mut time, mut set) = (0, 0, 0, 0, 0);
+    // SAFETY: as for the calls above; each number lent is a variable of its own.
+    result(unsafe {
+        saber_read_record(
+            record.as_ptr(),
+            record.len(),
+            &mut has_door,
+            &mut door,
+            &mut has_time,
+            &mut time,
+            &mut set,
+            ciphertext.as_mut_ptr(),
+            ciphertext.len(),
+        )
+    })?;
+    Ok(Entry { door: (has_door != 0).then_some(door), time: (has_time != 0).then_some(time), set })
 }

@@ -1,4 +1,4 @@
-use saber::{Refusal, Set, FIRESABER, LIGHTSABER, N, SABER, SEED};
+use saber::{Entry, Refusal, Set, FIRESABER, LIGHTSABER, N, SABER, SEED};
 
 struct Keys {
     public: Vec<u8>,
@@ -66,6 +66,56 @@ fn refusals_leave_outputs_alone() {
     assert_eq!(saber::poly_mul(1024, &[0; N], &[1024; N], &mut list), Err(Refusal::CoefficientRange));
     assert_eq!(saber::unpack(10, &[0; 320], &mut list[1..]), Err(Refusal::OutputLength));
     assert_eq!(list, [0xa5a5; N]);
+}
+
+// An entry's record by hand, without its ciphertext.
+fn record_start(entry: Entry) -> Vec<u8> {
+    let mut start = vec![12 + u8::from(entry.door.is_some()) + 2 * u8::from(entry.time.is_some())];
+    start.extend(entry.door.iter().flat_map(|door| door.to_le_bytes()));
+    start.extend(entry.time.iter().flat_map(|time| time.to_le_bytes()));
+    start.push(entry.set as u8);
+    start
+}
+
+#[test]
+fn records_are_written_and_read() {
+    for (number, set) in [(0, SABER), (1, LIGHTSABER), (2, SABER), (3, FIRESABER)] {
+        let ciphertext: Vec<u8> = (0..set.ciphertext).map(|i| (i * 7 + 1) as u8).collect();
+        for door in [None, Some(0), Some(0x1234), Some(u16::MAX)] {
+            for time in [None, Some(0), Some(0x0102_0304_0506_0708), Some(u64::MAX)] {
+                let entry = Entry { door, time, set: set.number };
+                let expected = [record_start(entry), ciphertext.clone()].concat();
+                let mut record = vec![0xa5; expected.len()];
+                assert_eq!(saber::write_record(door, time, number, &ciphertext, &mut record), Ok(()));
+                assert_eq!(record, expected);
+                let mut read = vec![0xa5; set.ciphertext];
+                assert_eq!(saber::read_record(&record, &mut read), Ok(entry));
+                assert_eq!(read, ciphertext);
+            }
+        }
+    }
+}
+
+#[test]
+fn refused_records_leave_outputs_alone() {
+    let (sound, mut record) = ([7; 736], [0xa5; 740]);
+    assert_eq!(saber::write_record(Some(5), None, 4, &sound[1..], &mut record), Err(Refusal::UnknownSet));
+    assert_eq!(saber::write_record(Some(5), None, 1, &sound[1..], &mut record), Err(Refusal::CiphertextLength));
+    assert_eq!(saber::write_record(Some(5), None, 1, &sound, &mut record[1..]), Err(Refusal::OutputLength));
+    assert_eq!(saber::write_record(Some(5), Some(5), 1, &sound, &mut record), Err(Refusal::OutputLength));
+    assert_eq!(record, [0xa5; 740]);
+    assert_eq!(saber::write_record(Some(5), None, 1, &sound, &mut record), Ok(()));
+
+    let mut ciphertext = [0xa5; 736];
+    let mut read = |record: &[u8]| saber::read_record(record, &mut ciphertext);
+    assert_eq!(read(&[]), Err(Refusal::RecordMap));
+    assert_eq!(read(&[&[0x1d], &record[1..]].concat()), Err(Refusal::RecordMap));
+    assert_eq!(read(&record[..3]), Err(Refusal::RecordLength));
+    assert_eq!(read(&[&record[..3], &[0], &record[4..]].concat()), Err(Refusal::UnknownSet));
+    assert_eq!(read(&record[..739]), Err(Refusal::RecordLength));
+    assert_eq!(read(&[&record[..], &[0]].concat()), Err(Refusal::RecordLength));
+    assert_eq!(saber::read_record(&record, &mut ciphertext[1..]), Err(Refusal::OutputLength));
+    assert_eq!(ciphertext, [0xa5; 736]);
 }
 
 #[test]

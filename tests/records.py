@@ -1,0 +1,163 @@
+"""Records, sound and mutated, through the program sabercall and through the C interface, against the oracle.
+
+    python3 tests/records.py [--seed N] [--count N] [--program FILE] [--archive FILE]
+
+Each of COUNT records is that of an entry that is drawn, changed in one of the ways below. The entry is written, the
+record is read, and what was read from it is written again, which has to give the same record. The first difference ends
+the run with 1 and a line for `sabercall`. The seed that is printed repeats a run.
+"""
+
+import random
+import subprocess
+import sys
+import tempfile
+from collections import Counter
+
+from drawing import any_content, options, sound_arguments
+
+import notation
+import saber
+from calls import CALLS
+from library import Breach, Library
+from samples import with_bit_turned
+
+WRITE, READ = CALLS["write_record"], CALLS["read_record"]
+LENGTHS = [set.ciphertext for set in saber.SETS.values()]
+HEAD = 12  # bytes before the ciphertext, at most
+
+
+# Changes of a record; `other` is another one
+
+
+def bits_turned(draw, record, other):
+    for _ in range(draw.randrange(1, 4)):
+        record = with_bit_turned(record, draw.randrange(8 * draw.choice((HEAD, len(record)))))
+    return record
+
+
+def cut(draw, record, other):
+    return record[: draw.choice((draw.randrange(HEAD + 2), draw.randrange(len(record)), len(record) - 1))]
+
+
+def drawn_out(draw, record, other):
+    return record + draw.choice((b"\0", draw.randbytes(draw.randrange(1, 20)), other))
+
+
+def spliced(draw, record, other):
+    """The start of one and the end of the other, at any places or so that the length is the one's or the other's."""
+    start = draw.choice((draw.randrange(HEAD + 1), draw.randrange(len(record))))
+    end = draw.choice((start, max(len(other) - len(record) + start, 0), draw.randrange(len(other))))
+    return record[:start] + other[end:]
+
+
+def other_map(draw, record, other):
+    return bytes([draw.choice((draw.randrange(12, 16), draw.randrange(256)))]) + record[1:]
+
+
+def other_set_byte(draw, record, other):
+    place = saber.set_place(record[0])
+    return record[:place] + bytes([draw.choice((0, 1, 2, 3, 4, 5, 6, 255, draw.randrange(256)))]) + record[place + 1 :]
+
+
+def any_bytes(draw, record, other):
+    """Any bytes behind any map that is one, or any bytes at all, often with a sound length."""
+    string = draw.randbytes(draw.choice((len(record), draw.randrange(30), draw.randrange(1600))))
+    return string if draw.random() < 0.3 else bytes([draw.randrange(12, 16), draw.randrange(5)]) + string[2:]
+
+
+def unchanged(draw, record, other):
+    return record
+
+
+CHANGES = {
+    "as written": unchanged,
+    "bits turned": bits_turned,
+    "cut": cut,
+    "drawn out": drawn_out,
+    "spliced": spliced,
+    "another map": other_map,
+    "another set byte": other_set_byte,
+    "any bytes": any_bytes,
+    "to a wrong length": unchanged,
+}
+
+
+# Calls
+
+
+def output_length(draw, way, record):
+    """The length that a ciphertext read from the record would have, but often another."""
+    set = saber.set_in(record)
+    right = set.ciphertext if set else draw.choice(LENGTHS)
+    if way == "to a wrong length" or draw.random() < 0.1:
+        return draw.choice((0, 1, right - 1, right + 1, *(length for length in LENGTHS if length != right)))
+    return right
+
+
+def calls_of(draw, way):
+    """The calls with a record that is changed in a way: its entry is written, it is read, and what was read written."""
+    entry, other = sound_arguments(draw, WRITE), sound_arguments(draw, WRITE)
+    [record], [spare] = (WRITE.run(*arguments)[1] for arguments in (entry, other))
+    changed = CHANGES[way](draw, record, spare)
+    read = [changed, draw.randbytes(output_length(draw, way, changed))]
+    yield WRITE, [*entry[:-1], any_content(draw, record)]
+    yield READ, read
+    answer, values = READ.run(*read)
+    if answer == 0:
+        again = [*values, any_content(draw, changed)]
+        assert WRITE.run(*again) == (0, [changed]), "the oracle writes what it read"
+        yield WRITE, again
+
+
+def through_program(program, calls):
+    """The answers of sabercall, a line each."""
+    requests = b"".join(notation.write_request(call.name, *arguments) + b"\n" for call, arguments in calls)
+    done = subprocess.run([program.resolve()], input=requests, stdout=subprocess.PIPE, check=True)
+    lines = done.stdout.split(b"\n")[:-1]
+    if len(lines) != len(calls):
+        sys.exit(f"{len(lines)} answers of sabercall to {len(calls)} calls")
+    return [line.decode() for line in lines]
+
+
+def through_c(draw, archive, calls):
+    """The answers of the C interface, in the same words."""
+    with tempfile.TemporaryDirectory() as folder:
+        library = Library(archive, folder)
+        for call, arguments in calls:
+            try:
+                yield notation.write_answer(*library.run(draw, call, arguments)).decode()
+            except Breach as breach:
+                yield str(breach)
+
+
+def main():
+    files = dict(program="target/bin/sabercall", archive="target/staticlib/libsaber.a")
+    given = options("records", 1000, "records", **files)
+    draw = random.Random(given.seed)
+    calls, answers = [], {way: Counter() for way in CHANGES}
+    for i in range(given.count):
+        way = [*CHANGES][i % len(CHANGES)]
+        found = [*calls_of(draw, way)]
+        calls += found
+        answers[way].update(call.run(*arguments)[0] for call, arguments in found if call is READ)
+    expected = [notation.write_answer(*call.run(*arguments)).decode() for call, arguments in calls]
+    for side, found in (
+        ("sabercall", through_program(given.program, calls)),
+        ("C", through_c(draw, given.archive, calls)),
+    ):
+        for (call, arguments), right, wrong in zip(calls, expected, found):
+            if right != wrong:
+                print(f"difference through {side}. Request:")
+                print(notation.write_request(call.name, *arguments).decode())
+                print(f"expected: {right}\nfound: {wrong}")
+                return 1
+    for way, counts in answers.items():
+        print(f"{way}: " + ", ".join(f"{count} -> {answer}" for answer, count in sorted(counts.items())))
+    total = Counter(call.name for call, _ in calls)
+    made = " and ".join(f"{count} of {name}" for name, count in total.items())
+    print(f"{made}, through sabercall and through C, no difference")
+    return 0
+
+
+if __name__ == "__main__":
+    sys.exit(main())
