@@ -10,8 +10,15 @@ ghost use Rattle.reconciliation.specs.Promises.{ReconData, Recovered};
 ghost use Rattle.pke.specs.Promises.{Encrypted, Decrypted};
 ghost use Rattle.keys.specs.Promises.{Generated};
 ghost use Rattle.kem.specs.Promises.{Encapsulated, Decapsulated};
-ghost use Rattle.saber.specs.Lookup.{orZero, keyOffset, keyLength};
+ghost use Rattle.questions.specs.Answers.{written};
+ghost use Rattle.records.specs.Records.{doorOf, timeOf, doorNumber, timeNumber};
+ghost use Rattle.records.specs.Promises.{Recorded};
+ghost use Rattle.saber.specs.Lookup.{keyOffset, keyLength};
+ghost use Rattle.saber.specs.Numbers.{flagged, flagOf, orOld, ReadInto};
 use keys::lookup_answer;
+use records::Door;
+use records::Read;
+use records::Time;
 use sets::set_params;
 
 // Making keys: Q1, Q3, Q9.
@@ -178,7 +185,7 @@ pub extern "C" fn saber_sha3_512(input: &[u8], digest: &mut [u8]) -> u8
 
 // The number where the answer is 0, else 0.
 fn or_zero(answer: u8, number: usize) -> usize
-    ensures { λ r. ⌜ r ≡ orZero answer number ⌝ }
+    ensures { λ r. ⌜ r ≡ written answer number 0 ⌝ }
 {
     if answer == 0 { number } else { 0 }
 }
@@ -200,4 +207,103 @@ pub extern "C" fn saber_public_key_length(set: u32, secret_key: usize) -> usize
 {
     let p = set_params(set);
     or_zero(lookup_answer(set, secret_key), p.pk)
+}
+
+// The door that a flag and a number mean.
+fn door_of(has_door: u8, door: u16) -> Door
+    ensures { λ r. ⌜ r ≡ doorOf (flagged «has_door» door) ⌝ }
+{
+    if has_door == 0 {
+        return Door::Missing;
+    }
+    Door::Number(door)
+}
+
+fn time_of(has_time: u8, time: u64) -> Time
+    ensures { λ r. ⌜ r ≡ timeOf (flagged «has_time» time) ⌝ }
+{
+    if has_time == 0 {
+        return Time::Missing;
+    }
+    Time::Number(time)
+}
+
+// Hands out a door: the flag, and the number where there is one.
+fn give_door(given: Door, has_door: &mut u8, door: &mut u16)
+    ensures { λ _. ⌜ (now («has_door» .exit) ≡ flagOf (doorNumber given)) × (now (door .exit) ≡ orOld (doorNumber given) (now (door .entry))) ⌝ }
+{
+    match given {
+        Door::Missing => {
+            *has_door = 0;
+        }
+        Door::Number(x) => {
+            *has_door = 1;
+            *door = x;
+        }
+    }
+}
+
+fn give_time(given: Time, has_time: &mut u8, time: &mut u64)
+    ensures { λ _. ⌜ (now («has_time» .exit) ≡ flagOf (timeNumber given)) × (now (time .exit) ≡ orOld (timeNumber given) (now (time .entry))) ⌝ }
+{
+    match given {
+        Time::Missing => {
+            *has_time = 0;
+        }
+        Time::Number(x) => {
+            *has_time = 1;
+            *time = x;
+        }
+    }
+}
+
+// Writes the record of an entry: Q1, Q6, Q9. A door or a time whose flag is 0 is missing.
+#[no_mangle]
+pub extern "C" fn saber_write_record(
+    has_door: u8,
+    door: u16,
+    has_time: u8,
+    time: u64,
+    set: u32,
+    ciphertext: &[u8],
+    record: &mut [u8],
+) -> u8
+    ensures { λ r. ⌜ Recorded (doorOf (flagged «has_door» door)) (timeOf (flagged «has_time» time)) set (now (ciphertext .entry))
+        (now («record» .entry)) r (now («record» .exit)) ⌝ }
+{
+    records::write_record(
+        door_of(has_door, door),
+        time_of(has_time, time),
+        set,
+        ciphertext,
+        record,
+    )
+}
+
+// Reads a record: 10, 11, 1, 11, 9. The entry's numbers go where the caller lends a place for each; a missing one leaves its place alone.
+#[no_mangle]
+pub extern "C" fn saber_read_record(
+    record: &[u8],
+    has_door: &mut u8,
+    door: &mut u16,
+    has_time: &mut u8,
+    time: &mut u64,
+    set: &mut u32,
+    ciphertext: &mut [u8],
+) -> u8
+    ensures { λ r. ⌜ ReadInto (now («record» .entry)) (now («has_door» .entry)) (now (door .entry)) (now («has_time» .entry))
+        (now (time .entry)) (now (set .entry)) (now (ciphertext .entry)) r (now («has_door» .exit)) (now (door .exit))
+        (now («has_time» .exit)) (now (time .exit)) (now (set .exit)) (now (ciphertext .exit)) ⌝ }
+{
+    match records::read_record(record, ciphertext) {
+        Read::Entry(head) => {
+            let d = head.door;
+            let t = head.time;
+            give_door(d, has_door, door);
+            give_time(t, has_time, time);
+            *set = head.set;
+            0
+        }
+        Read::Refused(number) => number,
+    }
 }

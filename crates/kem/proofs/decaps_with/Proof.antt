@@ -1,23 +1,34 @@
 -- `kem::decaps_with` meets its contract: the comparison chooses between the two secrets, and the chosen one is written.
 use Prim.Native.Nat.{_+_, _*_}
 use mathlib.Core.Path.{refl}
+use native.Mathlib.Omega.{arith}
 use borrow.Author.Needs.{needs}
 use Rattle.lists.specs.Laws.Parts.{last-part}
 use Rattle.kem.specs.Laws.Kem.{decaps-steps}
 use Rattle.kem.proofs.decaps_with.Statement.{statement}
 use Rattle.kem.proofs.decaps_with.Tie as tie
 
+-- the places before the chosen secret is copied: where it was chosen, where the ciphertexts were compared, and the steps made again before that
+abbrev chosen : tie.After-copy-at-arg → tie.After-chosen-secret
+chosen c = c .before .before
+
+abbrev compared : tie.After-copy-at-arg → tie.After-same
+compared c = chosen c .before .before .before .before
+
+abbrev again : tie.After-copy-at-arg → tie.After-again-with
+again c = compared c .before .before .before .before .before .before .before .before
+
+abbrev start : tie.After-copy-at-arg → tie.Start
+start c = again c .before .before .before .before .before .before .before .before
+
 returns : tie.Need-returns
 returns c =
     let last = c .before .before in
-    let chosen = last .before .before .before in
-    let compared = chosen .before .before .before .before in
-    let again = compared .before .before .before .before .before .before .before .before in
-    let start = again .before .before .before .before .before .before .before .before in
-    let a = start .args in
-    decaps-steps _ _ _ _ (start .pre .ssLong) (again .again-with .ensures)
-    (last-part (416 * a .p .l + a .p .pk + 32) _ (a .«secret-key» .now) refl) refl (compared .same .ensures)
-    (chosen .chosen-secret .ensures) (last .copy-at .ensures)
+    let copy = last .before in
+    let a = start copy .args in
+    decaps-steps _ _ _ _ (start copy .pre .ssLong) (again copy .again-with .ensures)
+    (last-part (416 * a .p .l + a .p .pk + 32) _ (a .«secret-key» .now) refl) refl (compared copy .same .ensures)
+    (chosen copy .chosen-secret .ensures) (last .copy-at .ensures)
 
 pub decaps-with-spec : {M : Type 1} → statement M
 decaps-with-spec =
@@ -36,7 +47,7 @@ decaps-with-spec =
     (λ c. search needs)
     (λ c κs. search needs)
     (λ c. search needs)
-    (λ c κs. search needs)
+    (λ c κs. omega (arith, start c .pre .ssLong))
     (λ c. search needs)
     (λ c. search needs)
     (λ c. search needs)

@@ -44,11 +44,11 @@ none-no [] y = refl
 none-no (q ∷ qs) y = rw (y .0) (none-no qs (y .1))
 
 -- an answer of 0 writes an output, a refusal leaves it as it was
-pub accepted : (r : ℕ) (result old : List ℕ) → r ≡ 0 → result ≡ written r result old
+pub accepted : {A : Type 0} (r : ℕ) (result old : A) → r ≡ 0 → result ≡ written r result old
 accepted zero result old e = refl
 accepted (suc r) result old e = absurd (omega arith)
 
-pub refused : (r : ℕ) (result old : List ℕ) → (r ≡ 0 → ⊥) → old ≡ written r result old
+pub refused : {A : Type 0} (r : ℕ) (result old : A) → (r ≡ 0 → ⊥) → old ≡ written r result old
 refused zero result old h = absurd (h refl)
 refused (suc r) result old h = refl
 

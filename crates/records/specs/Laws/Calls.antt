@@ -113,6 +113,15 @@ module _ (d : Door) (t : Time) (set : ℕ) {p q : Part} (ip : Lays (0, 2) (doorN
 
 -- One after the other
 
+-- the answer to a read that gives an entry, and to one that is refused
+pub entry-given : (a : ℕ) (h g : Head) → Entry h ≡ readOf a g → (a ≡ 0) × (h ≡ g)
+entry-given zero h g e = (refl, (cc))
+entry-given (suc a) h g e = let z : _≡_ {A = ℕ} 0 1 = cc in absurd (omega arith)
+
+pub refusal-given : (a n : ℕ) (g : Head) → Refused n ≡ readOf a g → (n ≡ a) × (n ≡ 0 → ⊥)
+refusal-given zero n g e = let z : _≡_ {A = ℕ} 0 1 = cc in absurd (omega arith)
+refusal-given (suc a) n g e = let is : n ≡ suc a = cc in (is, λ z. omega arith)
+
 -- what was written is read back: the same door and time, the set that its number means and the same ciphertext
 pub read-back :
     (d : Door) (t : Time) (set : ℕ) (c old ct : List ℕ) {new ct' : List ℕ} {r : Read} → Fits 2 (doorNumber d) → Fits 8 (timeNumber t) →
@@ -125,16 +134,12 @@ read-back d t set c old ct {new} {ct'} {r} fd ft l w g =
     let e : r ≡ Entry h = g .answers ∙ rw (a, w .writes, k .head) in
     (e, g .writes ∙ rw (e, w .writes) (k .rest))
 
-accepted : (a : ℕ) (h g : Head) → Entry h ≡ readOf a g → (a ≡ 0) × (h ≡ g)
-accepted zero h g e = (refl, (cc))
-accepted (suc a) h g e = let z : _≡_ {A = ℕ} 0 1 = cc in absurd (omega arith)
-
 -- what was read is written again: the same bytes
 pub write-back :
     (s old lent : List ℕ) {h : Head} {ct new : List ℕ} {r : ℕ} → Below 256 s → length lent ≡ length s → Retrieved s old (Entry h) ct →
     Recorded (h .door) (h .time) (h .set) ct lent r new → (r ≡ 0) × (new ≡ s)
 write-back s old lent {h} {ct} {new} {r} b l g w =
-    let e = accepted (readAnswer s (length old)) h (headIn s) (g .answers) in
+    let e = entry-given (readAnswer s (length old)) h (headIn s) (g .answers) in
     let a = write-accepts s (length old) b (e .0) in
     let z : r ≡ 0 = w .answers ∙ rw (l, g .writes, e .1, a .0) (a .1) in
     (z, w .writes ∙ rw (z, g .writes, e .1, a .0) (written-read s (length old) b (e .0)))

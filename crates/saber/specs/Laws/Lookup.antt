@@ -6,14 +6,9 @@ use lib.ListN.{length, take, drop}
 use Rattle.questions.specs.Answers.{earliest, written}
 use Rattle.sets.specs.Sets.{paramsOf}
 use Rattle.keys.specs.Keys.{lookupQuestions, publicKeyOf}
-use Rattle.saber.specs.Lookup.{orZero, keyOffset, keyLength}
+use Rattle.saber.specs.Lookup.{keyOffset, keyLength}
 
--- a refusal gives 0
-pub zero-refused : (answer n : ℕ) → (answer ≡ 0 → ⊥) → 0 ≡ orZero answer n
-zero-refused zero n h = absurd (h refl)
-zero-refused (suc r) n h = refl
-
-cut : (r a n : ℕ) (s : List ℕ) → take (orZero r n) (drop (orZero r a) s) ≡ written r (take n (drop a s)) []
+cut : (r a n : ℕ) (s : List ℕ) → take (written r n 0) (drop (written r a 0) s) ≡ written r (take n (drop a s)) []
 cut zero a n s = refl
 cut (suc r) a n s = refl
 

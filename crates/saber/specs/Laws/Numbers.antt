@@ -1,0 +1,59 @@
+-- Laws of numbers that may be missing, by a flag and a number, and of the read that lends them.
+use Prim.Native.Nat.{ℕ, zero, suc}
+use mathlib.Core.List.{List}
+use mathlib.Core.Option.{Option, none, some}
+use mathlib.Core.Path.{_≡_, refl, sym, ap, _∙_}
+use lib.ListN.{length}
+use Rattle.questions.specs.Answers.{written}
+use Rattle.questions.specs.Laws.Answers.{refused}
+use Rattle.records.specs.declared.Door.{Door}
+use Rattle.records.specs.declared.Time.{Time}
+use Rattle.records.specs.declared.Head.{Head}
+use Rattle.records.specs.declared.Read.{Read}
+use Rattle.records.specs.Records.{doorNumber, timeNumber, headIn, readAnswer}
+use Rattle.records.specs.Promises.{Recorded, Retrieved}
+use Rattle.records.specs.Laws.Calls.{entry-given, refusal-given}
+use Rattle.saber.specs.Numbers.{flagged, flagOf, orOld, ReadInto}
+
+-- a flag that is not 0
+pub there : (flag x : ℕ) → (flag ≡ 0 → ⊥) → some x ≡ flagged flag x
+there zero x h = absurd (h refl)
+there (suc flag) x h = refl
+
+-- the promise of writing, of the door and the time that are meant
+pub recorded-as :
+    {d d′ : Door} {t t′ : Time} (set : ℕ) (ct old : List ℕ) {r : ℕ} {new : List ℕ} → d ≡ d′ → t ≡ t′ → Recorded d t set ct old r new →
+    Recorded d′ t′ set ct old r new
+recorded-as set ct old e e′ w = rw (e, e′) at w
+
+-- a read that gives an entry, whose numbers are handed out, and one that is refused
+module _ (s ct : List ℕ) (hasDoor door hasTime time set : ℕ) {r : Read} {ct' : List ℕ} (w : Retrieved s ct r ct') where
+  pub read-entry :
+      {h : Head} {hasDoor' door' hasTime' time' : ℕ} → r ≡ Read.Entry h →
+      (hasDoor' ≡ flagOf (doorNumber (h .door))) × (door' ≡ orOld (doorNumber (h .door)) door) →
+      (hasTime' ≡ flagOf (timeNumber (h .time))) × (time' ≡ orOld (timeNumber (h .time)) time) →
+      ReadInto s hasDoor door hasTime time set ct 0 hasDoor' door' hasTime' time' (h .set) ct'
+  read-entry {h} is d t =
+      let e = entry-given (readAnswer s (length ct)) h (headIn s) (sym is ∙ w .answers) in
+      record {
+        answers = sym (e .0);
+        doorFlag = d .0 ∙ rw (e .1);
+        doorIs = d .1 ∙ rw (e .1);
+        timeFlag = t .0 ∙ rw (e .1);
+        timeIs = t .1 ∙ rw (e .1);
+        setIs = rw (e .1);
+        writes = w .writes ∙ rw is;
+      }
+
+  pub read-refusal : {n : ℕ} → r ≡ Read.Refused n → ReadInto s hasDoor door hasTime time set ct n hasDoor door hasTime time set ct'
+  read-refusal {n} is =
+      let e = refusal-given (readAnswer s (length ct)) n (headIn s) (sym is ∙ w .answers) in
+      record {
+        answers = e .0;
+        doorFlag = refused n _ hasDoor (e .1);
+        doorIs = refused n _ door (e .1);
+        timeFlag = refused n _ hasTime (e .1);
+        timeIs = refused n _ time (e .1);
+        setIs = refused n _ set (e .1);
+        writes = w .writes ∙ rw is;
+      }
