@@ -210,7 +210,8 @@ fn read_answer(map: u8, set: u32, record: usize, ciphertext: usize) -> u8
 {
     let p = set_params(set);
     let head = head_length(map);
-    let total = ask(record == head + p.ct, 11, ask(ciphertext == p.ct, 9, 0));
+    let size = head + p.ct;
+    let total = ask(record == size, 11, ask(ciphertext == p.ct, 9, 0));
     let known = ask(0 < set, 1, ask(0 < p.l, 1, total));
     let reach = ask(bit(map, 3) == 1, 10, ask(head <= record, 11, known));
     ask(
