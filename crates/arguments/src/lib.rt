@@ -2,17 +2,35 @@
 ghost use Prim.Native.Nat.{_<_};
 use notation::Bytes;
 use notation::List;
+use notation::Optional;
 use notation::Shape;
 use notation::Step;
 use notation::Text;
+use records::Door;
+use records::Read;
+use records::Time;
 
 // The hex words of a request, in the order in which they stand: three byte strings, two lists, two byte outputs and a list output. The
 // bytes of word k end where those of word k + 1 start; those of a word that a call does not take are none.
 pub type Ends = [usize; 9];
 
-// The number of a request, where its other arguments stand in the bytes, and what is wrong with the line.
-pub struct Arguments {
+// The largest door, the largest time, and the largest of the other numbers.
+const LAST_DOOR: usize = 65535;
+
+const LAST_TIME: usize = usize::MAX;
+
+const LAST_NUMBER: usize = 4294967295;
+
+// The numbers of a request.
+pub struct Numbers {
+    pub door: Door,
+    pub time: Time,
     pub number: u32,
+}
+
+// The numbers of a request, where its other arguments stand in the bytes, and what is wrong with the line.
+pub struct Arguments {
+    pub numbers: Numbers,
     pub ends: Ends,
     pub fault: u8,
 }
@@ -41,9 +59,23 @@ fn digits_of(k: usize) -> usize
     2
 }
 
-// A number that was read up to 2^32 - 1.
+// A door, a time and another number that were read up to their bounds.
+fn door_of(read: Optional) -> Door {
+    match read {
+        Optional::Number(x) => Door::Number((x % (LAST_DOOR + 1)) as u16),
+        Optional::Missing => Door::Missing,
+    }
+}
+
+fn time_of(read: Optional) -> Time {
+    match read {
+        Optional::Number(x) => Time::Number(x as u64),
+        Optional::Missing => Time::Missing,
+    }
+}
+
 fn narrow(x: usize) -> u32 {
-    (x % 4294967296) as u32
+    (x % (LAST_NUMBER + 1)) as u32
 }
 
 // Reads the arguments that a call takes, from a place of the line on.
@@ -53,7 +85,9 @@ pub fn read(shape: Shape, line: &[u8], at: usize, bytes: &mut Bytes) -> Argument
         next: at,
         fault: notation::SOUND,
     };
-    let number = notation::read_number(shape.numbers > 0, 4294967295, line, start);
+    let door = notation::read_optional(shape.optionals > 0, LAST_DOOR, line, start);
+    let time = notation::read_optional(shape.optionals > 1, LAST_TIME, line, door.step);
+    let number = notation::read_number(shape.numbers > 0, LAST_NUMBER, line, time.step);
     let mut ends = [0; 9];
     let mut step = Step {
         value: 0,
@@ -67,8 +101,14 @@ pub fn read(shape: Shape, line: &[u8], at: usize, bytes: &mut Bytes) -> Argument
         k += 1;
         ends[k] = next.value;
     }
+    let d = door.number;
+    let t = time.number;
     Arguments {
-        number: narrow(number.value),
+        numbers: Numbers {
+            door: door_of(d),
+            time: time_of(t),
+            number: narrow(number.value),
+        },
         ends,
         fault: notation::finish(line, step),
     }
@@ -148,6 +188,44 @@ pub fn print_answer(
     print_output(shape.byte_outputs > 1, extra, text);
     let n = notation::bytes_into(result, spare);
     print_output(shape.list_outputs > 0, front(spare, n), text);
+}
+
+// Prints a space and then a number, a door or a time, which is `-` where it is missing.
+fn print_number(x: u64) {
+    print(b" ");
+    io::print_decimal(1, x);
+}
+
+fn print_door(door: Door) {
+    match door {
+        Door::Number(x) => print_number(x as u64),
+        Door::Missing => print(b" -"),
+    }
+}
+
+fn print_time(time: Time) {
+    match time {
+        Time::Number(x) => print_number(x),
+        Time::Missing => print(b" -"),
+    }
+}
+
+// Prints the answer of reading a record, and the numbers of its entry.
+pub fn print_read(read: Read) {
+    match read {
+        Read::Entry(head) => {
+            let door = head.door;
+            let time = head.time;
+            print(b"0");
+            print_door(door);
+            print_time(time);
+            print_number(head.set as u64);
+        }
+        Read::Refused(answer) => {
+            io::print_decimal(1, answer as u64);
+            print(b" - - -");
+        }
+    }
 }
 
 // Prints what is wrong with a line, and says whether anything is.

@@ -1,5 +1,6 @@
 // The library's calls by name: what each takes, and the dispatch to it.
 
+use arguments::Numbers;
 use notation::Shape;
 
 // The calls that answer with a number.
@@ -20,12 +21,15 @@ pub enum Call {
     Shake128,
     Sha3256,
     Sha3512,
+    WriteRecord,
 }
 
-// What can be asked for: a call, whose reply is its answer and every output, or the lookup, whose reply is the part that it hands back.
+// What can be asked for: a call, whose reply is its answer and every output; the lookup, whose reply is the part that it hands back; or the
+// reading of a record, whose reply has the numbers of its entry between the answer and the output.
 pub enum Request {
     Call(Call),
     PublicKeyOf,
+    ReadRecord,
 }
 
 // A request, and what it takes.
@@ -39,7 +43,15 @@ pub enum Found {
     Nothing,
 }
 
-// The row of a call where its name is the one that is asked for, and else what was found before.
+// A row where its name is the one that is asked for, and else what was found before.
+fn select(found: Found, asked: &[u8], name: &[u8], row: Row) -> Found {
+    if check::same(asked, name) {
+        return Found::Row(row);
+    }
+    found
+}
+
+// The row of a call without optional numbers.
 fn entry(
     found: Found,
     asked: &[u8],
@@ -51,43 +63,49 @@ fn entry(
     byte_outputs: usize,
     list_outputs: usize,
 ) -> Found {
-    if check::same(asked, name) {
-        let shape = Shape {
-            numbers,
-            strings,
-            lists,
-            byte_outputs,
-            list_outputs,
-        };
-        return Found::Row(Row {
-            request: Request::Call(call),
-            shape,
-        });
-    }
-    found
+    let shape = Shape {
+        optionals: 0,
+        numbers,
+        strings,
+        lists,
+        byte_outputs,
+        list_outputs,
+    };
+    let request = Request::Call(call);
+    select(found, asked, name, Row { request, shape })
 }
 
-// The same for the lookup.
-fn lookup(asked: &[u8], name: &[u8], numbers: usize, strings: usize) -> Found {
-    if check::same(asked, name) {
-        let shape = Shape {
-            numbers,
-            strings,
-            lists: 0,
-            byte_outputs: 0,
-            list_outputs: 0,
-        };
-        return Found::Row(Row {
-            request: Request::PublicKeyOf,
-            shape,
-        });
-    }
-    Found::Nothing
+// The row of a request without lists.
+fn byte_entry(
+    found: Found,
+    asked: &[u8],
+    name: &[u8],
+    request: Request,
+    optionals: usize,
+    numbers: usize,
+    strings: usize,
+    byte_outputs: usize,
+) -> Found {
+    let shape = Shape {
+        optionals,
+        numbers,
+        strings,
+        lists: 0,
+        byte_outputs,
+        list_outputs: 0,
+    };
+    select(found, asked, name, Row { request, shape })
 }
 
-// The table: name, numbers, byte strings, lists, byte outputs, list outputs.
+// The table.
 pub fn row_of(name: &[u8]) -> Found {
-    let f = lookup(name, b"public_key_of", 1, 1);
+    let f = Found::Nothing;
+    // name, optional numbers, numbers, byte strings, byte outputs
+    let f = byte_entry(f, name, b"public_key_of", Request::PublicKeyOf, 0, 1, 1, 0);
+    let f = byte_entry(f, name, b"read_record", Request::ReadRecord, 0, 0, 1, 1);
+    let write = Request::Call(Call::WriteRecord);
+    let f = byte_entry(f, name, b"write_record", write, 2, 1, 1, 1);
+    // name, numbers, byte strings, lists, byte outputs, list outputs
     let f = entry(f, name, b"keygen", Call::Keygen, 1, 3, 0, 2, 0);
     let f = entry(f, name, b"encaps", Call::Encaps, 1, 2, 0, 2, 0);
     let f = entry(f, name, b"decaps", Call::Decaps, 1, 2, 0, 1, 0);
@@ -106,10 +124,10 @@ pub fn row_of(name: &[u8]) -> Found {
     entry(f, name, b"sha3_512", Call::Sha3512, 0, 1, 0, 1, 0)
 }
 
-// Makes a call. An argument that the call does not have is empty.
+// Makes a call. An argument that the call does not have is 0 or empty.
 pub fn make_call(
     call: Call,
-    number: u32,
+    numbers: Numbers,
     first: &[u8],
     second: &[u8],
     third: &[u8],
@@ -119,6 +137,9 @@ pub fn make_call(
     extra: &mut [u8],
     result: &mut [u16],
 ) -> u8 {
+    let door = numbers.door;
+    let time = numbers.time;
+    let number = numbers.number;
     match call {
         Call::Keygen => keys::keygen(number, first, second, third, output, extra),
         Call::Encaps => kem::encaps(number, first, second, output, extra),
@@ -136,5 +157,6 @@ pub fn make_call(
         Call::Shake128 => sha3::shake128(first, output),
         Call::Sha3256 => sha3::sha3_256(first, output),
         Call::Sha3512 => sha3::sha3_512(first, output),
+        Call::WriteRecord => records::write_record(door, time, number, first, output),
     }
 }

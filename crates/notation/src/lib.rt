@@ -1,5 +1,6 @@
 // The notation of requests and their answers: words with one space between; decimal numbers; bytes as hex pairs; numbers of 16 bits as
-// four hex digits; `-` for an empty string or list. What has no room in a buffer is left out; the contracts speak of places alone.
+// four hex digits; `-` for an empty string or list and for a missing number. What has no room in a buffer is left out; the contracts speak
+// of places alone.
 ghost use Prim.Native.Nat.{_≤_, _<_};
 ghost use lib.ListN.{length};
 
@@ -12,6 +13,7 @@ pub type Text = [u8; 65536];
 
 // How many arguments of each kind a call takes, in the order in which they stand.
 pub struct Shape {
+    pub optionals: usize,
     pub numbers: usize,
     pub strings: usize,
     pub lists: usize,
@@ -36,6 +38,18 @@ pub struct Step {
     pub value: usize,
     pub next: usize,
     pub fault: u8,
+}
+
+// A number that may be missing.
+pub enum Optional {
+    Missing,
+    Number(usize),
+}
+
+// What reading such a number gave.
+pub struct OptionalStep {
+    pub number: Optional,
+    pub step: Step,
 }
 
 // The smaller of two numbers.
@@ -126,6 +140,29 @@ pub fn read_number(wanted: bool, most: usize, line: &[u8], from: Step) -> Step {
     }
     let end = word_end(line, at);
     decimal_of(&line[at..end], most, end + 1)
+}
+
+// Reads the next word as a number that is missing where the word is `-`.
+pub fn read_optional(wanted: bool, most: usize, line: &[u8], from: Step) -> OptionalStep {
+    let at = from.next;
+    if at < line.len() {
+        let end = word_end(line, at);
+        if wanted & check::same(&line[at..end], b"-") {
+            return OptionalStep {
+                number: Optional::Missing,
+                step: Step {
+                    value: 0,
+                    next: end + 1,
+                    fault: from.fault,
+                },
+            };
+        }
+    }
+    let step = read_number(wanted, most, line, from);
+    OptionalStep {
+        number: Optional::Number(step.value),
+        step,
+    }
 }
 
 // Reads a word of elements of so many hex digits into bytes from a place on, and says what is wrong with it. Each digit is shifted into

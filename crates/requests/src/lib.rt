@@ -29,7 +29,7 @@ fn answer_call(
     let q = notation::least(arguments::part(bytes, ends, 7).len() / 2, result.len());
     let answer = calls::make_call(
         call,
-        a.number,
+        a.numbers,
         arguments::part(bytes, ends, 0),
         arguments::part(bytes, ends, 1),
         arguments::part(bytes, ends, 2),
@@ -50,6 +50,16 @@ fn answer_call(
     );
 }
 
+// Reads a record, and prints its entry and the ciphertext, which is the front of its buffer.
+fn answer_read(a: Arguments, bytes: &[u8], ciphertext: &mut [u8], text: &mut Text) {
+    let ends = a.ends;
+    let n = notation::least(arguments::part(bytes, ends, 5).len(), ciphertext.len());
+    let read = records::read_record(arguments::part(bytes, ends, 0), &mut ciphertext[0..n]);
+    arguments::print_read(read);
+    arguments::print(b" ");
+    arguments::print_word(arguments::front(ciphertext, n), text);
+}
+
 // Prints the reply to a request: what it asks for, or why it cannot be read.
 fn reply(
     row: Row,
@@ -68,27 +78,26 @@ fn reply(
     }
     let ends = a.ends;
     let request = row.request;
+    arguments::fill(ends, bytes, left, right, output, extra, result);
     match request {
-        Request::Call(call) => {
-            arguments::fill(ends, bytes, left, right, output, extra, result);
-            answer_call(
-                call,
-                row.shape,
-                a,
-                bytes,
-                left,
-                right,
-                output,
-                extra,
-                result,
-                spare,
-                text,
-            );
-        }
+        Request::Call(call) => answer_call(
+            call,
+            row.shape,
+            a,
+            bytes,
+            left,
+            right,
+            output,
+            extra,
+            result,
+            spare,
+            text,
+        ),
         Request::PublicKeyOf => {
-            let key = keys::public_key_of(a.number, arguments::part(bytes, ends, 0));
+            let key = keys::public_key_of(a.numbers.number, arguments::part(bytes, ends, 0));
             arguments::print_word(key, text);
         }
+        Request::ReadRecord => answer_read(a, bytes, output, text),
     }
 }
 
