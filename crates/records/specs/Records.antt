@@ -17,11 +17,13 @@ use Rattle.records.specs.declared.Head.{Head}
 use Rattle.records.specs.declared.Read.{Read}
 use Rattle.records.specs.declared.Read.the-variants.{Entry, Refused}
 
+-- The fields
+
 -- a field that is a number: its bit in the map, and how many bytes it has
 abbrev pub Field : Type 0
 Field = ℕ × ℕ
 
--- these fields in the order in which they follow the map: door, time and set. Bit 3, the ciphertext, comes after them
+-- these fields in the order in which they follow the map: door, time and set. The ciphertext, bit 3, comes after them
 unfoldable pub fields : List Field
 fields = (0, 2) ∷ (1, 8) ∷ (2, 1) ∷ []
 
@@ -41,8 +43,9 @@ takenBy m (f ∷ fs) = taken m f + takenBy m fs
 abbrev pub headLength : ℕ → ℕ
 headLength m = 1 + takenBy m fields
 
--- Writing. The numbers of an entry, in the order of the fields; a door or a time may be missing
+-- Writing
 
+-- the numbers of an entry in the order of the fields; a door or a time may be missing, a set may not
 abbrev pub doorNumber : Door → Option ℕ
 doorNumber door.Missing = none
 doorNumber (door.Number x) = some x
@@ -91,13 +94,13 @@ abbrev pub writeQuestions : ℕ → ℕ → ℕ → ℕ → List Question
 writeQuestions m set ct size =
     (known set, 1) ∷ (eqb ct (paramsOf set .ct), 6) ∷ (eqb size (headLength m + paramsOf set .ct), 9) ∷ []
 
--- Reading. Past the end of a record every byte counts as 0; its length is asked about
+-- Reading. What follows is of every string; one that is too short gives what there is of it, and the questions refuse it
 
--- byte 0
+-- byte 0, or 0 in an empty record
 abbrev pub mapIn : List ℕ → ℕ
 mapIn s = getD s 0 0
 
--- the numbers that stand one behind the other in a string, by the map
+-- the numbers that stand one behind the other in a string, each where its bit stands
 abbrev pub given : Bool → ℕ → Option ℕ
 given true x = some x
 given false x = none
@@ -122,16 +125,16 @@ setOf (some x) = x
 abbrev pub headOf : List (Option ℕ) → Head
 headOf xs = record { door = doorOf (getD xs 0 none); time = timeOf (getD xs 1 none); set = setOf (getD xs 2 none) }
 
--- the entry that a record holds
+-- the head of the entry in a record, and its ciphertext
 unfoldable pub headIn : List ℕ → Head
 headIn s = headOf (numbersIn (mapIn s) fields (drop 1 s))
 
 abbrev pub ciphertextIn : List ℕ → List ℕ
 ciphertextIn s = drop (headLength (mapIn s)) s
 
--- the questions of a reader, by the record's map and set bytes, its length and the output's. 10: the record is not empty, and of its map
--- bits 4 to 7 are clear and bits 2 and 3 stand; 11: it reaches to the set byte; 1: that is the number of a set itself; 11: the whole
--- length is that which map and set require; 9
+-- the questions of a reader, by the record's map and set byte, its length and the output's. 10: it is not empty, and of its map bits 4 to 7
+-- are clear and bits 2 and 3 stand. 11: it is not too short for the set byte. 1: that is a set's own number, so not 0. 11: the total is
+-- what map and set require. 9: the output has the ciphertext's length
 abbrev pub readQuestions : ℕ → ℕ → ℕ → ℕ → List Question
 readQuestions m set size ct =
     (ltb 0 size, 10) ∷ (ltb m 16, 10) ∷ (stands m 2, 10) ∷ (stands m 3, 10)
@@ -154,12 +157,14 @@ abbrev pub answerOf : Read → ℕ
 answerOf (Entry h) = 0
 answerOf (Refused n) = n
 
--- a number fits its field of n bytes, and an entry's numbers fit theirs
+-- One encoding for each entry
+
+-- a number that may be missing fits a field of n bytes
 abbrev pub Fits : ℕ → Option ℕ → Type 0
 Fits n none = Unit {0}
 Fits n (some x) = x < 256 ^ n
 
--- the record s holds an entry: a reader who lends an output of the ciphertext's length takes it, and is given this head and this ciphertext
+-- the record s holds the entry of a head and a ciphertext: who lends an output of the ciphertext's length is given these
 pub record Holds (s : List ℕ) (h : Head) (ciphertext : List ℕ) : Type 0 where
   pub accepted : readAnswer s (length ciphertext) ≡ 0
   pub head : headIn s ≡ h

@@ -1,3 +1,4 @@
 pub mod Lookup
 pub mod Numbers
+pub mod Promises
 pub mod Laws

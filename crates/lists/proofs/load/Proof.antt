@@ -11,8 +11,6 @@ use Rattle.lists.specs.Numbers.{number}
 use Rattle.lists.specs.Laws.Numbers.{number-more, number-lt}
 use Rattle.lists.proofs.load.Statement.{statement}
 use Rattle.lists.proofs.load.Tie as tie
-use Rattle.lists.proofs.load.Reads as reads
-use Rattle.lists.proofs.load.Lts as lts
 
 abbrev Inv-loop : tie.InvT-loop
 Inv-loop bytes x₀ i₀ x i = (i ≤ length bytes) × (x ≡ number 256 (drop i bytes)) × (x < 256 ^ length (drop i bytes))

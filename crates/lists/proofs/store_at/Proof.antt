@@ -2,7 +2,6 @@
 use borrow.Author.Needs.{needs}
 use Prim.Native.Nat.{ℕ, _+_, _-_}
 use mathlib.Core.Path.{_≡_, ap, _∙_}
-use native.Mathlib.Nat.{add-sub-cancel-left}
 use native.Mathlib.Omega.{arith}
 use lib.ListN.{length}
 use borrow.Rule.Slice.PartMut.{midOf, mid-len}
@@ -11,8 +10,6 @@ use Rattle.lists.specs.Laws.Numbers.{length-digits}
 use Rattle.lists.specs.Laws.Parts.{put-placed}
 use Rattle.lists.proofs.store_at.Statement.{statement}
 use Rattle.lists.proofs.store_at.Tie as tie
-use Rattle.lists.proofs.store_at.Reads as reads
-use Rattle.lists.proofs.store_at.Lts as lts
 
 returns : tie.Need-returns
 returns c =

@@ -1,5 +1,4 @@
 -- `records::write_record` meets its contract: an answer of 0 gives the lengths, and any other leaves the record alone.
-use native.Mathlib.Omega.{arith}
 use borrow.Author.Needs.{needs}
 use Rattle.records.specs.Laws.Calls.{write-refused, write-room, write-done}
 use Rattle.records.proofs.write_record.Statement.{statement}

@@ -1,24 +1,21 @@
 -- Laws of the two calls: with its steps made each keeps its promise, and what one writes the other reads.
-use Prim.Native.Nat.{ℕ, zero, suc, _+_, _-_, _^_, _<_, _≤_}
-use mathlib.Core.Bool.{true}
-use mathlib.Core.List.{List, [], _∷_, _++_, append-assoc, append-nil}
-use mathlib.Core.Option.{Option, some}
+use Prim.Native.Nat.{ℕ, zero, suc, _+_, _-_, _<_, _≤_}
+use mathlib.Core.List.{List, _++_, append-assoc}
+use mathlib.Core.Option.{Option}
 use mathlib.Core.Path.{_≡_, refl, sym, ap, _∙_}
 use native.Mathlib.Nat.{mod-eq-of-lt}
 use native.Mathlib.Omega.{arith}
 use lib.ListN.{length, getD, take, drop, length-append, length-drop}
-use borrow.Author.Needs.{needs}
-use borrow.Author.Tests.{eqb-true, eq-eqb}
+use borrow.Author.Tests.{eqb-true}
 use Rattle.lists.specs.Numbers.{digits, Below}
 use Rattle.lists.specs.Strings.{placed}
 use Rattle.lists.specs.Laws.Numbers.{length-digits}
 use Rattle.lists.specs.Laws.Parts.{last-part}
 use Rattle.lists.specs.Laws.Strings.{placed-whole}
-use Rattle.questions.specs.Answers.{earliest, written, Wrote}
-use Rattle.questions.specs.Laws.Answers.{all-yes, none-no, refused, wrote, wrote-none, _and_}
+use Rattle.questions.specs.Answers.{earliest}
+use Rattle.questions.specs.Laws.Answers.{all-yes, refused, wrote, wrote-none}
 use Rattle.sets.specs.declared.Params.{Params}
-use Rattle.sets.specs.Sets.{paramsOf, known}
-use Rattle.sets.specs.Laws.Rows.{own-number}
+use Rattle.sets.specs.Sets.{paramsOf}
 use Rattle.records.specs.declared.Door.{Door}
 use Rattle.records.specs.declared.Time.{Time}
 use Rattle.records.specs.declared.Head.{Head}
@@ -26,11 +23,11 @@ use Rattle.records.specs.declared.Read.{Read}
 use Rattle.records.specs.declared.Read.the-variants.{Entry, Refused}
 use Rattle.records.specs.declared.Part.{Part}
 use Rattle.records.specs.Records.{Field, fields, headLength, bytesOf, doorNumber, timeNumber, numbersOf, bitsOf, laid, mapOf, headed, recordOf}
-use Rattle.records.specs.Records.{writeQuestions, headIn, ciphertextIn, readQuestions, readAnswer, readOf, answerOf, Fits, Holds}
+use Rattle.records.specs.Records.{writeQuestions, headIn, readQuestions, readAnswer, readOf, Fits}
 use Rattle.records.specs.Promises.{Recorded, Retrieved}
 use Rattle.records.specs.Rooms.{Lays, WriteRoom, Readable}
 use Rattle.records.specs.Laws.Fields.{length-laid}
-use Rattle.records.specs.Laws.Records.{Mapped, mapped, readable, read-written, written-read, write-accepts}
+use Rattle.records.specs.Laws.Records.{mapped, readable, read-written, written-read, write-accepts}
 
 -- Reading
 

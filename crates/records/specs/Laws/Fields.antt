@@ -1,19 +1,16 @@
 -- Laws of the fields that are numbers, for every list of fields: what was laid out is read back, and what was read is laid out as it was.
-use Prim.Native.Nat.{ℕ, zero, suc, _+_, _*_, _%_, _/_, _^_, _<_, _≤_}
-use mathlib.Core.Bool.{Bool, true, false}
+use Prim.Native.Nat.{ℕ, zero, suc, _+_, _*_, _/_, _^_, _<_, _≤_}
 use mathlib.Core.List.{List, [], _∷_, _++_, append-assoc}
-use mathlib.Core.Logic.{_⊎_, inl, inr, ⊎-elim}
 use mathlib.Core.Option.{Option, none, some}
 use mathlib.Core.Path.{_≡_, refl, sym, ap, ap₂, _∙_}
 use native.Mathlib.Nat.{mod-lt, zero-mul, one-mul}
 use native.Mathlib.Omega.{arith}
 use lib.Dec.{eqb}
-use lib.ListN.{length, getD, take, drop, length-append, length-drop}
+use lib.ListN.{length, take, drop, length-append, length-drop}
 use lib.Seq.{take-at, drop-at, take-add, length-take-le, getD-take, getD-drop}
-use borrow.Author.Tests.{eq-eqb, ne-eqb}
 use Rattle.lists.specs.Numbers.{number, digits, digit, Below}
 use Rattle.lists.specs.Laws.Numbers.{length-digits, digits-number, number-digits}
-use Rattle.records.specs.Records.{Field, fields, stands, taken, takenBy, headLength, bytesOf, laid, given, numbersIn, Fits}
+use Rattle.records.specs.Records.{Field, fields, taken, takenBy, headLength, bytesOf, laid, given, numbersIn, Fits}
 
 -- the bits of a map say which numbers are there
 abbrev pub Agree : ℕ → List Field → List (Option ℕ) → Type 0

@@ -1,18 +1,18 @@
 -- Laws of records: a reader gets back what was written, and a writer writes again what was read.
-use Prim.Native.Nat.{ℕ, zero, suc, _+_, _*_, _%_, _/_, _^_, _<_, _≤_}
-use mathlib.Core.Bool.{Bool, true, false}
-use mathlib.Core.List.{List, [], _∷_, _++_}
+use Prim.Native.Nat.{ℕ, zero, suc, _+_, _*_, _^_, _<_}
+use mathlib.Core.Bool.{true}
+use mathlib.Core.List.{List, [], _∷_}
 use mathlib.Core.Option.{Option, none, some}
 use mathlib.Core.Path.{_≡_, refl, sym, ap, ap₂, _∙_}
 use native.Mathlib.Nat.{mod-lt, zero-mul, one-mul}
 use native.Mathlib.Omega.{arith}
-use lib.Dec.{eqb, ltb, leb}
-use lib.ListN.{length, getD, take, drop, length-append, length-drop, take-append-drop}
+use lib.Dec.{eqb}
+use lib.ListN.{length, getD, length-append, length-drop, take-append-drop}
 use lib.Seq.{drop-at, drop-drop}
 use borrow.Author.Needs.{needs}
 use borrow.Author.Tests.{eq-eqb, lt-ltb, le-leb, eqb-true, ltb-true, leb-true}
 use Rattle.lists.specs.Lists.{from}
-use Rattle.lists.specs.Numbers.{number, digit, Below}
+use Rattle.lists.specs.Numbers.{number, digits, digit, Below}
 use Rattle.lists.specs.Laws.Numbers.{digits-from, number-digits}
 use Rattle.questions.specs.Answers.{earliest}
 use Rattle.questions.specs.Laws.Answers.{all-yes, none-no, _and_}
@@ -29,6 +29,14 @@ use Rattle.records.specs.Records.{writeQuestions, mapIn, numbersIn, give
 use Rattle.records.specs.Records.{readAnswer, Fits, Holds}
 use Rattle.records.specs.Rooms.{Readable}
 use Rattle.records.specs.Laws.Fields.{Agree, numbers-laid, length-laid, laid-numbers}
+
+-- in figures: door 0x1234, time 0x0102030405060708 and set 1; then neither door nor time, and set 3
+pub computed :
+    (recordOf (record { door = door.Number 4660; time = time.Number 72623859790382856; set = 1 }) (9 ∷ [])
+    ≡ 15 ∷ 0x34 ∷ 0x12 ∷ 8 ∷ 7 ∷ 6 ∷ 5 ∷ 4 ∷ 3 ∷ 2 ∷ 1 ∷ 1 ∷ 9 ∷ [])
+    × (recordOf (record { door = door.Missing; time = time.Missing; set = 3 }) (9 ∷ []) ≡ 12 ∷ 3 ∷ 9 ∷ [])
+unfolding recordOf laid bitsOf fields digits
+computed = (refl, refl)
 
 -- the map of a head: its bits say which numbers are there, and it is one that a reader takes
 pub record Mapped (m : ℕ) (xs : List (Option ℕ)) : Type 0 where

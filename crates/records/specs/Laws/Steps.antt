@@ -1,12 +1,10 @@
 -- The steps of the calls: what the code reads of a record and writes into it, one number after another, is the definition.
 use Prim.Native.Nat.{ℕ, _+_, _-_, _*_, _^_, _<_, _≤_}
-use mathlib.Core.Bool.{true, false}
-use mathlib.Core.List.{List, [], _∷_, _++_, append-assoc}
+use mathlib.Core.List.{List, _++_, append-assoc}
 use mathlib.Core.Option.{Option, none, some}
 use mathlib.Core.Path.{_≡_, refl, sym, ap, _∙_}
 use native.Mathlib.Nat.{pow-le-pow-right, one-le-pow, lt-of-lt-of-le, min-le-left}
 use native.Mathlib.Omega.{arith}
-use lib.Dec.{eqb}
 use lib.ListN.{length, getD, take, drop, length-take, length-drop, drop-of-length-le}
 use lib.Seq.{drop-drop, take-all, take-nil}
 use borrow.Author.Tests.{eq-eqb, ne-eqb}
@@ -16,7 +14,6 @@ use Rattle.lists.specs.Laws.Numbers.{length-digits}
 use Rattle.lists.specs.Laws.Parts.{last-part, prefix-none, prefix-copy, prefix-all}
 use Rattle.records.specs.declared.Door.{Door}
 use Rattle.records.specs.declared.Time.{Time}
-use Rattle.records.specs.declared.Head.{Head}
 use Rattle.records.specs.Records.{Field, fields, stands, given, numbersIn, doorOf, timeOf, setOf, headIn}
 use Rattle.records.specs.Rooms.{Lays, WriteRoom}
 

@@ -1,10 +1,9 @@
 -- Laws of numbers that may be missing, by a flag and a number, and of the read that lends them.
 use Prim.Native.Nat.{ℕ, zero, suc}
 use mathlib.Core.List.{List}
-use mathlib.Core.Option.{Option, none, some}
-use mathlib.Core.Path.{_≡_, refl, sym, ap, _∙_}
+use mathlib.Core.Option.{some}
+use mathlib.Core.Path.{_≡_, refl, sym, _∙_}
 use lib.ListN.{length}
-use Rattle.questions.specs.Answers.{written}
 use Rattle.questions.specs.Laws.Answers.{refused}
 use Rattle.records.specs.declared.Door.{Door}
 use Rattle.records.specs.declared.Time.{Time}
@@ -13,7 +12,8 @@ use Rattle.records.specs.declared.Read.{Read}
 use Rattle.records.specs.Records.{doorNumber, timeNumber, headIn, readAnswer}
 use Rattle.records.specs.Promises.{Recorded, Retrieved}
 use Rattle.records.specs.Laws.Calls.{entry-given, refusal-given}
-use Rattle.saber.specs.Numbers.{flagged, flagOf, orOld, ReadInto}
+use Rattle.saber.specs.Numbers.{flagged, flagOf, orOld}
+use Rattle.saber.specs.Promises.{ReadInto}
 
 -- a flag that is not 0
 pub there : (flag x : ℕ) → (flag ≡ 0 → ⊥) → some x ≡ flagged flag x
