@@ -38,10 +38,10 @@ pub enum Read {
 }
 
 // A number as it is written: its bit of the map, its bytes and itself. A missing one has no bit and no bytes.
-pub struct Part {
-    pub bit: u8,
-    pub size: usize,
-    pub number: u64,
+struct Part {
+    bit: u8,
+    size: usize,
+    number: u64,
 }
 
 // A bit of a map, 0 or 1.

@@ -22,8 +22,8 @@ use Rattle.records.specs.declared.Head.{Head}
 use Rattle.records.specs.declared.Read.{Read}
 use Rattle.records.specs.declared.Read.the-variants.{Entry, Refused}
 use Rattle.records.specs.declared.Part.{Part}
-use Rattle.records.specs.Records.{Field, fields, headLength, bytesOf, doorNumber, timeNumber, numbersOf, bitsOf, laid, mapOf, headed, recordOf}
-use Rattle.records.specs.Records.{writeQuestions, headIn, readQuestions, readAnswer, readOf, Fits}
+use Rattle.records.specs.Records.{Field, fields, headLength, doorNumber, timeNumber, numbersOf, bytesOf, bitsOf, laid, mapOf}
+use Rattle.records.specs.Records.{headed, recordOf, writeQuestions, headIn, readQuestions, readAnswer, readOf, Fits}
 use Rattle.records.specs.Promises.{Recorded, Retrieved}
 use Rattle.records.specs.Rooms.{Lays, WriteRoom, Readable}
 use Rattle.records.specs.Laws.Fields.{length-laid}

@@ -24,9 +24,9 @@ use Rattle.records.specs.declared.Door.the-variants as door
 use Rattle.records.specs.declared.Time.{Time}
 use Rattle.records.specs.declared.Time.the-variants as time
 use Rattle.records.specs.declared.Head.{Head}
-use Rattle.records.specs.Records.{fields, Field, stands, takenBy, headLength, doorNumber, timeNumber, numbersOf, bitOf, bitsOf, laid, mapOf, headed, recordOf}
-use Rattle.records.specs.Records.{writeQuestions, mapIn, numbersIn, given, doorOf, timeOf, headOf, headIn, ciphertextIn, readQuestions}
-use Rattle.records.specs.Records.{readAnswer, Fits, Holds}
+use Rattle.records.specs.Records.{Field, fields, stands, takenBy, headLength, doorNumber, timeNumber, numbersOf, bitOf, bitsOf, laid}
+use Rattle.records.specs.Records.{mapOf, headed, recordOf, writeQuestions, mapIn, given, numbersIn, doorOf, timeOf, headOf, headIn}
+use Rattle.records.specs.Records.{ciphertextIn, readQuestions, readAnswer, Fits, Holds}
 use Rattle.records.specs.Rooms.{Readable}
 use Rattle.records.specs.Laws.Fields.{Agree, numbers-laid, length-laid, laid-numbers}
 
