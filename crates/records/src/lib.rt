@@ -59,6 +59,7 @@ fn head_length(map: u8) -> usize
     1 + bit(map, 0) * 2 + bit(map, 1) * 8 + bit(map, 2)
 }
 
+// How a door is written, and a time.
 fn door_part(door: Door) -> Part
     ensures { λ r. ⌜ Lays (0, 2) (doorNumber door) r ⌝ }
 {
@@ -162,6 +163,7 @@ fn number_at(record: &[u8], at: usize, n: usize) -> u64
     lists::load(&record[at..])
 }
 
+// The door in a record, where its bit stands; the time and the set from their places on.
 fn door_in(record: &[u8], map: u8) -> Door
     ensures { λ r. ⌜ r ≡ doorOf (given (stands map 0) (number 256 (take 2 (drop 1 (now («record» .entry)))))) ⌝ }
 {
