@@ -6,9 +6,9 @@ use native.Mathlib.Nat.{pow-le-pow-right}
 use native.Mathlib.Omega.{arith}
 use borrow.Author.Needs.{needs}
 use lib.ListN.{length, getD, drop, length-drop}
-use lib.Seq.{getD-drop, drop-length}
+use lib.Seq.{drop-length}
 use Rattle.lists.specs.Numbers.{number}
-use Rattle.lists.specs.Laws.Numbers.{number-more, number-lt}
+use Rattle.lists.specs.Laws.Numbers.{below-drop, number-more, number-lt}
 use Rattle.lists.proofs.load.Statement.{statement}
 use Rattle.lists.proofs.load.Tie as tie
 
@@ -38,7 +38,7 @@ next c =
       is = number-more 256 (l .i) a (omega arith) (l .inv .0) (l .inv .1);
       small =
           number-lt 256 (drop (l .i - 1) a)
-          (λ k q. rw (getD-drop (l .i - 1) a k 0) (omega (arith, c .shared-slice-known .given (l .i - 1 + k))));
+          (below-drop 256 (l .i - 1) a (λ k q. omega (arith, c .shared-slice-known .given k)));
       fits = pow-le-pow-right (omega arith) {j = 8} (simp length-drop (omega arith));
     }
 

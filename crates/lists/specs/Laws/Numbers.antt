@@ -7,7 +7,7 @@ use native.Mathlib.Nat.{add-mul-div-left, add-mul-mod-self-left, div-div-eq-div-
 use native.Mathlib.Nat.{div-one, mod-lt, mul-add, mul-assoc, mul-le-mul-left, mul-suc, mul-zero, pow-suc, pow-succ', pow-zero, suc-add, zero-add}
 use lib.ListN.{length, getD, take, drop, length-drop, take-append-drop}
 use lib.Pow.{pow-add}
-use lib.Seq.{drop-cons, drop-drop, length-take-le, take-add}
+use lib.Seq.{drop-cons, drop-drop, getD-drop, getD-take, length-take-le, take-add}
 use Rattle.lists.specs.Lists.{from}
 use Rattle.lists.specs.Numbers.{number, digits, digit, Below}
 use Rattle.lists.specs.Laws.Lists.{from-cong}
@@ -23,6 +23,15 @@ unfolding digits
 digits-below B zero v p k q = absurd (omega arith)
 digits-below B (suc n) v p zero q = mod-lt v p
 digits-below B (suc n) v p (suc k) q = digits-below B n (v / B) p k (omega arith)
+
+-- parts of a list whose elements are below the base
+pub below-take : (B n : ℕ) (xs : List ℕ) → n ≤ length xs → Below B xs → Below B (take n xs)
+below-take B n xs h b k q =
+    let l = length-take-le n xs h in
+    rw (getD-take n xs k 0 (omega arith)) (b k (omega arith))
+
+pub below-drop : (B n : ℕ) (xs : List ℕ) → Below B xs → Below B (drop n xs)
+below-drop B n xs b k q = rw (getD-drop n xs k 0) (b (n + k) (omega (arith, length-drop n xs)))
 
 -- digits below the base are those of their number
 pub digits-number : (B : ℕ) (xs : List ℕ) → 0 < B → Below B xs → digits B (length xs) (number B xs) ≡ xs

@@ -7,9 +7,9 @@ use native.Mathlib.Nat.{add-mul-div-left, add-mul-mod-self-left, div-add-mod, di
 use native.Mathlib.Nat.{mul-add, mul-add-div, mul-assoc, mul-comm, mul-div-right, pow-succ', zero-add}
 use lib.ListN.{length, getD, take, drop, length-append}
 use lib.Pow.{pow-pos, pow-add, shr-shr}
-use lib.Seq.{drop-cons, getD-take, length-take-le}
+use lib.Seq.{drop-cons, length-take-le}
 use Rattle.lists.specs.Numbers.{number, Below}
-use Rattle.lists.specs.Laws.Numbers.{length-digits, digits-below, digits-number, digits-split, number-digits, number-lt, number-append}
+use Rattle.lists.specs.Laws.Numbers.{length-digits, below-take, digits-below, digits-number, digits-split, number-digits, number-lt, number-append}
 use Rattle.lists.specs.Laws.Numbers.{number-split, pow-mul}
 use Rattle.packing.specs.Packing.{recut, packed, unpacked, bit, streamBit}
 use Rattle.packing.specs.Rooms.{Fills}
@@ -88,7 +88,7 @@ number-bit w xs k p h q =
     let front = take n xs in
     let e : length front ≡ n = length-take-le n xs (omega arith) in
     let low : number (2 ^ w) front < 2 ^ (w * n) =
-    rw (e, ← pow-mul w n) at (number-lt (2 ^ w) front (λ i g. rw (getD-take n xs i 0 (omega arith)) (h i (omega arith)))) in
+    rw (e, ← pow-mul w n) at (number-lt (2 ^ w) front (below-take (2 ^ w) n xs (omega arith) h)) in
     ap (bit (number (2 ^ w) xs)) (sym (div-add-mod k w))
     ∙ rw (
       ← shr-shr (number (2 ^ w) xs) (w * n) (k % w),

@@ -7,9 +7,9 @@ use native.Mathlib.Nat.{mod-lt, zero-mul, one-mul}
 use native.Mathlib.Omega.{arith}
 use lib.Dec.{eqb}
 use lib.ListN.{length, take, drop, length-append, length-drop}
-use lib.Seq.{take-at, drop-at, take-add, length-take-le, getD-take, getD-drop}
+use lib.Seq.{take-at, drop-at, take-add, length-take-le}
 use Rattle.lists.specs.Numbers.{number, digits, digit, Below}
-use Rattle.lists.specs.Laws.Numbers.{length-digits, digits-number, number-digits}
+use Rattle.lists.specs.Laws.Numbers.{length-digits, below-take, below-drop, digits-number, number-digits}
 use Rattle.records.specs.Records.{Field, fields, taken, takenBy, headLength, bytesOf, laid, given, numbersIn, Fits}
 
 -- the bits of a map say which numbers are there
@@ -56,15 +56,6 @@ numbers-laid m (f ∷ fs) (some x ∷ xs) rest h w =
     )
     (ap (λ l. some x ∷ l) (numbers-laid m fs xs rest (h .1) (w .1)))
 
--- parts of a string of bytes hold bytes
-below-take : (n : ℕ) (s : List ℕ) → n ≤ length s → Below 256 s → Below 256 (take n s)
-below-take n s h b k q =
-    let l = length-take-le n s h in
-    rw (getD-take n s k 0 (omega arith)) (b k (omega arith))
-
-below-drop : (n : ℕ) (s : List ℕ) → Below 256 s → Below 256 (drop n s)
-below-drop n s b k q = rw (getD-drop n s k 0) (b (n + k) (omega (arith, length-drop n s)))
-
 -- the bytes of a field that was read, where its bit is b
 laid-field :
     (b : ℕ) (f : Field) (s : List ℕ) → b < 2 → b * f .1 ≤ length s → Below 256 s →
@@ -74,7 +65,7 @@ laid-field (suc zero) f s l h w =
     let fits = rw one-mul at h in
     rw one-mul
     (ap (λ (k : ℕ). digits 256 k (number 256 (take (f .1) s))) (sym (length-take-le (f .1) s fits))
-    ∙ digits-number 256 (take (f .1) s) (omega arith) (below-take (f .1) s fits w))
+    ∙ digits-number 256 (take (f .1) s) (omega arith) (below-take 256 (f .1) s fits w))
 laid-field (suc (suc b)) f s l h w = absurd (omega arith)
 
 -- what was read is laid out as it was
@@ -84,7 +75,7 @@ unfolding numbersIn laid takenBy
 laid-numbers m [] s h b = refl
 laid-numbers m (f ∷ fs) s h b =
     ap₂ _++_ (laid-field (digit 2 m (f .0)) f s (mod-lt _ (omega arith)) (omega arith) b)
-    (laid-numbers m fs (drop (taken m f) s) (simp length-drop (omega arith)) (below-drop (taken m f) s b))
+    (laid-numbers m fs (drop (taken m f) s) (simp length-drop (omega arith)) (below-drop 256 (taken m f) s b))
     ∙ sym (take-add (taken m f) (takenBy m fs) s)
 
 -- no map puts more than the door, the time and the set before a ciphertext
