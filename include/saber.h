@@ -77,9 +77,9 @@ enum {
 
 // Key encapsulation
 
-// Makes a key pair from two seeds and z, the bytes that take part in a rejected secret, 32 bytes each. Who guesses the secret seed has the
-// secret key. Who guesses z learns from the secrets of rejected ciphertexts how these decrypt, and so the secret key. A matrix seed used
-// twice lets work against one key serve against the other. Refusals: 1, 3, 9.
+// Makes a key pair from two seeds and z, the bytes of which rejected secrets are made, 32 bytes each. Who guesses the secret seed has the
+// secret key. Who guesses z tells a rejected secret from a shared one. A matrix seed used twice lets work against one key serve against the
+// other. Refusals: 1, 3, 9.
 uint8_t saber_keygen(uint32_t set, const uint8_t *matrix_seed, size_t matrix_seed_count, const uint8_t *secret_seed,
                      size_t secret_seed_count, const uint8_t *z, size_t z_count, uint8_t *public_key, size_t public_key_count,
                      uint8_t *secret_key, size_t secret_key_count);
@@ -89,8 +89,8 @@ uint8_t saber_keygen(uint32_t set, const uint8_t *matrix_seed, size_t matrix_see
 uint8_t saber_encaps(uint32_t set, const uint8_t *public_key, size_t public_key_count, const uint8_t *seed, size_t seed_count,
                      uint8_t *ciphertext, size_t ciphertext_count, uint8_t *shared_secret, size_t shared_secret_count);
 
-// Decapsulation: the shared secret of 32 bytes. A ciphertext that was not made for this key is no refusal: it gives another secret, made
-// with z. Refusals: 1, 5, 6, 9.
+// Decapsulation: the shared secret of 32 bytes. A ciphertext that was not made for this key is no refusal: it gives the rejected secret,
+// SHA3-256 of z followed by SHA3-256 of the ciphertext. Refusals: 1, 5, 6, 9.
 uint8_t saber_decaps(uint32_t set, const uint8_t *secret_key, size_t secret_key_count, const uint8_t *ciphertext,
                      size_t ciphertext_count, uint8_t *shared_secret, size_t shared_secret_count);
 

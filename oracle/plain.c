@@ -281,10 +281,10 @@ void plain_decaps(int set_number, const uint8_t *secret_key, const uint8_t *ciph
     for (int i = 0; i < length; i++)
         different |= again[i] ^ ciphertext[i];
 
-    // In the place of r goes the ciphertext's hash if all bytes are equal, else z, without a branch on which.
+    // k stays in its place if all bytes are equal, else z goes there, without a branch on which.
     uint8_t mask = (uint8_t)-(different != 0);
-    sha3_256(kr + 32, ciphertext, length);
     for (int i = 0; i < 32; i++)
-        kr[32 + i] ^= mask & (kr[32 + i] ^ z[i]);
+        kr[i] ^= mask & (kr[i] ^ z[i]);
+    sha3_256(kr + 32, ciphertext, length);
     sha3_256(shared_secret, kr, 64);
 }

@@ -22,8 +22,8 @@ import known_answers
 import notation
 import saber
 from calls import CALLS
-from samples import NIST_FILES, bits, counted_secret, draw, draw_list, flipped, laid_record, monomial, vectors
-from samples import lent_bytes, lent_list
+from samples import NIST_FILES, bits, counted_secret, draw, draw_list, flipped, laid_record, lent_bytes, lent_list
+from samples import monomial, rejected_secret, vectors, with_bit_turned
 
 UNKNOWN_SETS = (4, 5, 4294967295)
 UNKNOWN_WIDTHS = (0, 2, 5, 12, 14, 16, 1024, 4294967295)
@@ -396,20 +396,30 @@ def decaps_section():
         for turn in range(8):
             yield ask("decaps", *sound(number, turn), stated=(0, [capsule(number, turn)[2]]))
         _, secret_key, ciphertext, _ = sound(number)
-        shared_secret, data = capsule(number, 2)[2], 320 * set.l
+        (*_, z), (seed, _, shared_secret), data = keys(number, 2)[0], capsule(number, 2), 320 * set.l
+
+        def rejected(other):
+            return ask("decaps", number, secret_key, other, lent, stated=(0, [rejected_secret(z, other)]))
+
         yield f"# decaps, set {number}: a bit damaged in each polynomial of the ciphertext, then in the data"
         for place in (*range(0, data, 320), data - 1, data, set.ciphertext - 1):
-            yield ask("decaps", number, secret_key, flipped(ciphertext, place), lent)
+            yield rejected(flipped(ciphertext, place))
+        yield f"# decaps, set {number}: two damaged ciphertexts that decrypt alike, and give different secrets"
+        for bit in (10, 8 * set.ciphertext - set.data_width):
+            other, message = with_bit_turned(ciphertext, bit), hashlib.sha3_256(seed).digest()
+            yield ask("decrypt", number, secret_key[: set.plain_secret], other, lent, stated=(0, [message]))
+            yield rejected(other)
         yield f"# decaps, set {number}: any bytes as a ciphertext"
         size = set.ciphertext
         for other in (draw(f"decaps {number} any", size), bytes(size), bytes([255]) * size):
-            yield ask("decaps", number, secret_key, other, lent)
+            yield rejected(other)
         yield f"# decaps, set {number}: a secret key damaged in s, b, the matrix seed and the hash"
         for place in (0, set.plain_secret - 1, set.plain_secret, -97, -96, -64):
             yield ask("decaps", number, flipped(secret_key, place), ciphertext, lent)
         yield f"# decaps, set {number}: damaged in z, which tells with a damaged ciphertext only"
         yield ask("decaps", number, flipped(secret_key, -1), ciphertext, lent, stated=(0, [shared_secret]))
-        yield ask("decaps", number, flipped(secret_key, -32), flipped(ciphertext, 7), lent)
+        other, another = flipped(secret_key, -32), flipped(ciphertext, 7)
+        yield ask("decaps", number, other, another, lent, stated=(0, [rejected_secret(other[-32:], another)]))
         yield f"# decaps, set {number}: secret coefficients of any 13 bits, all the largest; any bytes as a secret key"
         for plain in (draw(f"decaps {number} plain", set.plain_secret), bytes([255]) * set.plain_secret):
             yield ask("decaps", number, plain + secret_key[set.plain_secret :], ciphertext, lent)

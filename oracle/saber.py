@@ -268,14 +268,14 @@ def encaps(set, public_key, seed):
 
 
 def decaps(set, secret_key, ciphertext):
-    """Unsealing: the shared secret, or the rejected one where the ciphertexts differ."""
+    """Unsealing: the shared secret, or where the ciphertexts differ the rejected one, of z and the given one (A2)."""
     plain_secret, rest = secret_key[: set.plain_secret], secret_key[set.plain_secret :]
     public_key, key_hash, z = rest[:-64], rest[-64:-32], rest[-32:]
     m = decrypt(set, plain_secret, ciphertext)
     k, r = key_and_seed(m, key_hash)
     if encrypt(set, public_key, m, r) == ciphertext:
         return sha3_256(k + sha3_256(ciphertext))
-    return sha3_256(k + z)
+    return sha3_256(z + sha3_256(ciphertext))
 
 
 # Records (A1): a byte with a bit map, then the fields whose bit stands, numbers little-endian

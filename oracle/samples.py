@@ -1,5 +1,5 @@
 """Material for the tests: values that a label alone decides, damaged strings, what outputs are lent with, secrets
-counted bit by bit, records put together by hand, and NIST's published vectors.
+counted bit by bit, rejected secrets and records put together by hand, and NIST's published vectors.
 """
 
 import hashlib
@@ -57,6 +57,11 @@ def counted_secret(seed, l, mu):
     """The signed coefficients of a secret, counted in the stream of bits and not by the oracle's sampler."""
     stream, half = bits(hashlib.shake_128(seed).digest(32 * l * mu)), mu // 2
     return [sum(stream[i : i + half]) - sum(stream[i + half : i + mu]) for i in range(0, len(stream), mu)]
+
+
+def rejected_secret(z, ciphertext):
+    """What a ciphertext gives that unsealing rejects (A2)."""
+    return hashlib.sha3_256(z + hashlib.sha3_256(ciphertext).digest()).digest()
 
 
 def laid_record(door, time, number, ciphertext):

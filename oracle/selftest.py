@@ -12,7 +12,7 @@ import notation
 import saber
 from calls import CALLS, run
 from samples import NIST_FILES, bits, counted_secret, draw, draw_list, flipped, laid_record, lent_bytes, monomial
-from samples import vectors
+from samples import rejected_secret, vectors, with_bit_turned
 
 counts = {"checks": 0, "failed": 0}
 
@@ -266,18 +266,27 @@ def demand_3(number, label):
 
 
 def damaged(number):
-    """A damaged ciphertext gives SHA3-256 of k and z, with k from the message that it decrypts to."""
+    """A damaged ciphertext gives SHA3-256 of z and its own hash, whatever it decrypts to."""
     set = saber.NUMBERS[number]
     seeds, public_key, secret_key = keys(number, "damaged")
-    _, ciphertext, shared_secret = capsule(number, public_key, "damaged")
+    seed, ciphertext, shared_secret = capsule(number, public_key, "damaged")
+    secrets = [shared_secret]
+
+    def rejected(label, key, other):
+        expected = rejected_secret(seeds[2], other)
+        check(f"set {number}: {label}", run("decaps", number, key, other, bytes(32)) == (0, [expected]))
+        secrets.append(expected)
+
     for place in (0, 319, 320 * set.l - 1, 320 * set.l, set.ciphertext - 1):
-        other = flipped(ciphertext, place)
-        _, [m] = run("decrypt", number, secret_key[: 416 * set.l], other, bytes(32))
-        k = hashlib.sha3_512(m + secret_key[-64:-32]).digest()[:32]
-        rejected = hashlib.sha3_256(k + seeds[2]).digest()
-        answer = run("decaps", number, secret_key, other, bytes(32))
-        check(f"set {number}: byte {place} damaged", answer == (0, [rejected]))
-        check(f"set {number}: rejected secret differs", rejected != shared_secret)
+        rejected(f"byte {place} damaged", secret_key, flipped(ciphertext, place))
+    for bit in (10, 8 * set.ciphertext - set.data_width):
+        other = with_bit_turned(ciphertext, bit)
+        answer = run("decrypt", number, secret_key[: 416 * set.l], other, bytes(32))
+        check(f"set {number}: bit {bit} turned decrypts alike", answer == (0, [hashlib.sha3_256(seed).digest()]))
+        rejected(f"bit {bit} turned", secret_key, other)
+    rejected("any bytes", secret_key, draw(f"selftest {number} damaged", set.ciphertext))
+    check(f"set {number}: no two secrets are equal", len({*secrets}) == len(secrets))
+    rejected("z decides alone", draw(f"selftest {number} key", set.secret_key - 32) + seeds[2], ciphertext)
 
 
 def refusals():

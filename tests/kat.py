@@ -3,8 +3,8 @@
     python3 tests/kat.py [FILE..]         runs the files, or those of vectors/kat
     python3 tests/kat.py --write DIR      writes files of that format, made by the oracle
 
-Of each difference it says which reading of document 01 it can be laid to: the oracle, with that reading reversed,
-gives the entry's answer. It exits with 1 on a difference. `--sabercall PATH` takes another program than target/bin's.
+Of each difference it says which reading of documents 01 and 02 it can be laid to: the oracle, with that reading
+reversed, gives the entry's answer. It exits with 1 on a difference. `--sabercall PATH` takes another program than target/bin's.
 """
 
 import argparse

@@ -1,4 +1,4 @@
-"""Tests of the known-answer runner: every reading of document 01, reversed in an entry, is found again.
+"""Tests of the known-answer runner: every reading of documents 01 and 02, reversed in an entry, is found again.
 
     python3 tests/kat_selftest.py
 """
@@ -13,8 +13,6 @@ from drbg import known_answer_seeds
 from known_answers import FILES, checks, entry_of, write
 from samples import with_bit_turned
 
-REJECTION = "the rejected secret is of k and z"
-
 
 def differences(entry):
     """Each call in which an entry differs from the oracle, with what that is laid to."""
@@ -26,7 +24,7 @@ def reversed_entry(number, seed, name):
     """An entry made with one reading reversed."""
     with readings.reversed_in_oracle([name]):
         entry = entry_of(number, seed)
-        if name == REJECTION:
+        if name == readings.REJECTION:
             # An honest capsule is never rejected.
             ct = with_bit_turned(entry.ct, 0)
             entry = entry._replace(ct=ct, ss=saber.decaps(saber.SETS[number], entry.sk, ct))
@@ -46,7 +44,7 @@ def main():
             failed.append(f"set {number}: a damaged shared secret is laid to a reading")
         for name in readings.READINGS:
             laid = differences(reversed_entry(number, seed, name))
-            if name == REJECTION:
+            if name == readings.REJECTION:
                 # Its capsule is damaged, so it is not the one that sealing makes.
                 laid.pop("encaps")
             if not laid or any(choices != [(name,)] for choices in laid.values()):

@@ -1,4 +1,4 @@
-"""The readings of document 01 that decide what a known-answer entry holds, each of which the oracle can reverse.
+"""The readings of documents 01 and 02 that decide what a known-answer entry holds; the oracle can reverse each of them.
 
 A reversal is laid around the oracle's own functions, so that several can be in force at once.
 """
@@ -27,20 +27,23 @@ def encrypt_seed_first(encrypt):
     return lambda set, public_key, *rest: encrypt(set, public_key[32:] + public_key[:32], *rest)
 
 
-def rejected_as_in_section_2(_):
-    """z and the hash of the ciphertext make the rejected secret, in place of k and z."""
+def rejected_as_in_section_10(_):
+    """k and z make the rejected secret, the reading before request A2, in place of z and the hash of the ciphertext."""
 
     def decaps(set, secret_key, ciphertext):
         m = saber.decrypt(set, secret_key[: set.plain_secret], ciphertext)
         k, r = saber.key_and_seed(m, secret_key[-64:-32])
         equal = saber.encrypt(set, secret_key[set.plain_secret : -64], m, r) == ciphertext
-        return saber.sha3_256((k if equal else secret_key[-32:]) + saber.sha3_256(ciphertext))
+        return saber.sha3_256(k + (saber.sha3_256(ciphertext) if equal else secret_key[-32:]))
 
     return decaps
 
 
+# The reading that no honest capsule shows
+REJECTION = "the rejected secret is of z, then the capsule's hash, and not of k and z"
+
 # Each reading with the oracle's functions that reverse it. Lengths tell the uses of a hash apart: SHAKE-128 gives 32
-# bytes for the stored seed alone; SHA3-256 is given 32 bytes for m alone and 64 for shared secrets alone.
+# bytes for the stored seed alone; SHA3-256 is given 32 bytes for m alone and 64 for the last step to a secret alone.
 READINGS = {
     "the stored matrix seed is SHAKE-128 of the given one": {
         "shake128": lambda hash: lambda string, length: string if length == 32 else hash(string, length)
@@ -62,7 +65,7 @@ READINGS = {
     "the shared secret is of k, then the capsule's hash": {
         "sha3_256": lambda hash: lambda string: hash(string[32:] + string[:32] if len(string) == 64 else string)
     },
-    "the rejected secret is of k and z": {"decaps": rejected_as_in_section_2},
+    REJECTION: {"decaps": rejected_as_in_section_10},
 }
 
 

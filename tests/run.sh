@@ -56,6 +56,7 @@ test_with valgrind 'a round trip under valgrind' \
     valgrind --quiet --leak-check=full --error-exitcode=1 "$work/round_trip"
 test_of 'divisions' python3 tests/divisions.py
 test_with valgrind 'jumps and addresses that depend on secrets' python3 tests/secrets.py
+test_with valgrind 'instructions of decapsulation, accepted and rejected' python3 tests/counts.py
 test_of 'the stack test, built' c99 stack tests/stack.c
 test_of 'what the calls leave on the stack' "$work/stack"
 test_of 'random calls against the oracle' python3 tests/differential.py

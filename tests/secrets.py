@@ -30,7 +30,6 @@ CONTROL = "a control, which has to be found"
 
 # How many places of a kind a function has, and why.
 LISTED = {
-    ("jump", "saber_decaps"): (1, "the choice of the shared or the rejected secret (kdf::chosen_secret)"),
     ("jump", "saber_pack"): (1, Q8),
     ("jump", "saber_poly_mul"): (3, Q8),
     ("jump", "saber_recon_data"): (1, Q8),

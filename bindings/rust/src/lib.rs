@@ -110,14 +110,15 @@ macro_rules! calls {
 }
 
 calls! {
-    /// Makes a key pair from two seeds and z, the bytes that take part in a rejected secret. Who guesses the secret seed has the secret
-    /// key. Who guesses z learns from the secrets of rejected ciphertexts how these decrypt, and so the secret key. A matrix seed used
-    /// twice lets work against one key serve against the other.
+    /// Makes a key pair from two seeds and z, the bytes of which rejected secrets are made. Who guesses the secret seed has the secret
+    /// key. Who guesses z tells a rejected secret from a shared one. A matrix seed used twice lets work against one key serve against the
+    /// other.
     keygen = saber_keygen [set] (matrix_seed: u8, secret_seed: u8, z: u8) => (public_key: u8, secret_key: u8);
     /// Encapsulation: a ciphertext, and the shared secret of 32 bytes. Who guesses the seed has the shared secret, and a seed used twice
     /// with one key gives the same secret twice.
     encaps = saber_encaps [set] (public_key: u8, seed: u8) => (ciphertext: u8, shared_secret: u8);
-    /// Decapsulation: the shared secret. A ciphertext that was not made for this key is no refusal: it gives another secret, made with z.
+    /// Decapsulation: the shared secret. A ciphertext that was not made for this key is no refusal: it gives the rejected secret, SHA3-256
+    /// of z followed by SHA3-256 of the ciphertext.
     decaps = saber_decaps [set] (secret_key: u8, ciphertext: u8) => (shared_secret: u8);
     /// Encrypts a message of 32 bytes with a secret seed of 32 bytes. Who guesses the seed reads the message, and a seed used twice with
     /// one key shows in which bits two messages differ.

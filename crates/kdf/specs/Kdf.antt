@@ -1,4 +1,4 @@
--- Document 01, "Steps": what encapsulation ("sealing") and decapsulation ("unsealing") hash.
+-- Document 01, "Steps", and document 02, A2: what encapsulation ("sealing") and decapsulation ("unsealing") hash.
 use Prim.Native.Nat.{ℕ}
 use mathlib.Core.List.{List, _++_}
 use lib.ListN.{take, drop}
@@ -11,12 +11,9 @@ keyOf m hash = take 32 (sha3-512 (m ++ hash))
 abbrev pub coinsOf : List ℕ → List ℕ → List ℕ
 coinsOf m hash = drop 32 (sha3-512 (m ++ hash))
 
--- the secret of a ciphertext that is accepted, and of one that is rejected
-abbrev pub sharedSecret : List ℕ → List ℕ → List ℕ
-sharedSecret k ct = sha3-256 (k ++ sha3-256 ct)
-
-abbrev pub rejectedSecret : List ℕ → List ℕ → List ℕ
-rejectedSecret k z = sha3-256 (k ++ z)
+-- the secret of a ciphertext under a key of 32 bytes: under k the shared one and, by document 02, A2, under z the rejected one
+abbrev pub secretUnder : List ℕ → List ℕ → List ℕ
+secretUnder key ct = sha3-256 (key ++ sha3-256 ct)
 
 -- m of the caller's 32 bytes, the "sealed message"
 abbrev pub messageOf : List ℕ → List ℕ

@@ -1,10 +1,11 @@
-// The hashes of encapsulation and decapsulation: k and the coins from a message, and the shared or the rejected secret from k.
+// The hashes of encapsulation and decapsulation: k and the coins from a message, and the secret of a ciphertext under k or z.
 ghost use mathlib.Core.Bool.{cond};
 ghost use mathlib.Core.List.{_++_};
 ghost use mathlib.Core.Path.{_≡_};
+ghost use lib.Dec.{eqb};
 ghost use lib.ListN.{length};
-ghost use Rattle.sha3.specs.Hashes.{sha3-256, sha3-512};
-ghost use Rattle.kdf.specs.Kdf.{sharedSecret, rejectedSecret};
+ghost use Rattle.sha3.specs.Hashes.{sha3-512};
+ghost use Rattle.kdf.specs.Kdf.{secretUnder};
 
 // SHA3-512 of m and the hash of the public key: k, and then r, the coins of encryption.
 pub fn key_and_coins(message: &[u8; 32], hash: &[u8]) -> [u8; 64]
@@ -16,33 +17,23 @@ pub fn key_and_coins(message: &[u8; 32], hash: &[u8]) -> [u8; 64]
     sha3::hash512(&input)
 }
 
-// SHA3-256 of k followed by 32 bytes more, the last step to either secret.
-fn last_hash(k: &[u8], rest: &[u8]) -> [u8; 32]
-    requires { ⌜ (length (now k) ≡ 32) × (length (now rest) ≡ 32) ⌝ }
-    ensures { λ r. ⌜ r ≡ sha3-256 (now (k .entry) ++ now (rest .entry)) ⌝ }
+// The secret of a ciphertext under a key: under k the shared one, under z the rejected one.
+pub fn secret_under(key: &[u8], ciphertext: &[u8]) -> [u8; 32]
+    requires { ⌜ length (now key) ≡ 32 ⌝ }
+    ensures { λ r. ⌜ r ≡ secretUnder (now (key .entry)) (now (ciphertext .entry)) ⌝ }
 {
+    let hash = sha3::hash256(ciphertext);
     let mut input = [0u8; 64];
-    lists::join(k, rest, &mut input);
+    lists::join(key, &hash, &mut input);
     sha3::hash256(&input)
 }
 
-// The shared secret of a ciphertext.
-pub fn shared_secret(k: &[u8], ciphertext: &[u8]) -> [u8; 32]
-    requires { ⌜ length (now k) ≡ 32 ⌝ }
-    ensures { λ r. ⌜ r ≡ sharedSecret (now (k .entry)) (now (ciphertext .entry)) ⌝ }
-{
-    let hash = sha3::hash256(ciphertext);
-    last_hash(k, &hash)
-}
-
-// The shared secret where the ciphertext was made again, else the rejected secret.
-pub fn chosen_secret(equal: bool, k: &[u8], ciphertext: &[u8], z: &[u8]) -> [u8; 32]
+// The secret of a ciphertext under k where the difference is 0, else under z, by the same steps.
+pub fn chosen_secret(difference: u8, k: &[u8], z: &[u8], ciphertext: &[u8]) -> [u8; 32]
     requires { ⌜ (length (now k) ≡ 32) × (length (now z) ≡ 32) ⌝ }
-    ensures { λ r. ⌜ r ≡ cond equal (sharedSecret (now (k .entry)) (now (ciphertext .entry))) (rejectedSecret (now (k .entry)) (now (z .entry))) ⌝ }
+    ensures { λ r. ⌜ r ≡ secretUnder (cond (eqb difference 0) (now (k .entry)) (now (z .entry))) (now (ciphertext .entry)) ⌝ }
 {
-    if equal {
-        shared_secret(k, ciphertext)
-    } else {
-        last_hash(k, z)
-    }
+    let mut key = [0u8; 32];
+    lists::choose(difference, k, z, &mut key);
+    secret_under(&key, ciphertext)
 }

@@ -1,12 +1,13 @@
--- Document 01, "Steps": encapsulation ("sealing") and decapsulation ("unsealing"), of the set whose row in the table is p. The capsule is the
--- ciphertext.
+-- Document 01, "Steps", and document 02, A2: encapsulation ("sealing") and decapsulation ("unsealing"), of the set whose row in the table is p.
+-- The capsule is the ciphertext.
 use Prim.Native.Nat.{ℕ}
-use mathlib.Core.Bool.{cond}
+use mathlib.Core.Bool.{Bool, cond}
 use mathlib.Core.List.{List}
+use mathlib.Core.Path.{_≡_}
 use Rattle.lists.specs.Strings.{same}
 use Rattle.sets.specs.declared.Params.{Params}
 use Rattle.sha3.specs.Hashes.{sha3-256}
-use Rattle.kdf.specs.Kdf.{keyOf, coinsOf, sharedSecret, rejectedSecret, messageOf}
+use Rattle.kdf.specs.Kdf.{keyOf, coinsOf, secretUnder, messageOf}
 use Rattle.pke.specs.Pke.{encrypted, decrypted}
 use Rattle.keys.specs.Keys.{plainPart, keyPart, hashPart, zPart}
 
@@ -16,13 +17,23 @@ module _ (p : Params) where
   encapsCiphertext pk seed = encrypted p pk (messageOf seed) (coinsOf (messageOf seed) (sha3-256 pk))
 
   unfoldable pub encapsSecret : List ℕ → List ℕ → List ℕ
-  encapsSecret pk seed = sharedSecret (keyOf (messageOf seed) (sha3-256 pk)) (encapsCiphertext pk seed)
+  encapsSecret pk seed = secretUnder (keyOf (messageOf seed) (sha3-256 pk)) (encapsCiphertext pk seed)
 
-  -- decapsulation: the decrypted m is encrypted again with the stored hash and public key, and the ciphertexts are compared over all bytes;
-  -- the shared secret where they are equal, else the rejected one
+  -- decapsulation: m is decrypted, and encrypted again with the stored hash and public key
+  abbrev pub opened : List ℕ → List ℕ → List ℕ
+  opened sk ct = decrypted p (plainPart p sk) ct
+
+  abbrev pub madeAgain : List ℕ → List ℕ → List ℕ
+  madeAgain sk ct = encrypted p (keyPart p sk) (opened sk ct) (coinsOf (opened sk ct) (hashPart p sk))
+
+  -- a ciphertext is accepted where it is the one made again, compared over all bytes
+  abbrev pub accepted : List ℕ → List ℕ → Bool
+  accepted sk ct = same (madeAgain sk ct) ct
+
+  -- the secret of the received ciphertext: under k if it is accepted, which is the shared secret, else under z
   unfoldable pub decapsSecret : List ℕ → List ℕ → List ℕ
-  decapsSecret sk ct =
-      let m : List ℕ = decrypted p (plainPart p sk) ct in
-      let k : List ℕ = keyOf m (hashPart p sk) in
-      let again : List ℕ = encrypted p (keyPart p sk) m (coinsOf m (hashPart p sk)) in
-      cond (same again ct) (sharedSecret k ct) (rejectedSecret k (zPart p sk))
+  decapsSecret sk ct = secretUnder (cond (accepted sk ct) (keyOf (opened sk ct) (hashPart p sk)) (zPart p sk)) ct
+
+-- SHA3-256 has no collision at two strings
+abbrev pub Apart : List ℕ → List ℕ → Type 0
+Apart x y = sha3-256 x ≡ sha3-256 y → x ≡ y

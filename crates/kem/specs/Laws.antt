@@ -1,1 +1,2 @@
 pub mod Kem
+pub mod Rejection

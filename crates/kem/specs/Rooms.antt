@@ -2,14 +2,12 @@
 use Prim.Native.Nat.{ℕ, _+_, _*_}
 use mathlib.Core.List.{List, _++_}
 use mathlib.Core.Path.{_≡_}
-use lib.ListN.{drop}
 use Rattle.sets.specs.declared.Params.{Params}
 use Rattle.sets.specs.Rooms.{Row}
 use Rattle.answers.specs.Rooms.{EncapsRoom}
 use Rattle.sha3.specs.Hashes.{sha3-512}
-use Rattle.pke.specs.Pke.{encrypted, decrypted}
-use Rattle.keys.specs.Keys.{plainPart, keyPart, hashPart}
-use Rattle.kem.specs.Kem.{encapsCiphertext, encapsSecret}
+use Rattle.keys.specs.Keys.{hashPart}
+use Rattle.kem.specs.Kem.{encapsCiphertext, encapsSecret, opened, madeAgain}
 
 pub record EncapsSpace (p : Params) (pk secret ct ss : ℕ) : Type 0 where
   pub room : EncapsRoom p pk ct ss
@@ -28,8 +26,8 @@ pub record AgainSpace (p : Params) (sk ct secret again : ℕ) : Type 0 where
   pub againLong : again ≡ p .ct
 
 pub record MadeAgain (p : Params) (sk ct kr again' : List ℕ) : Type 0 where
-  pub key : kr ≡ sha3-512 (decrypted p (plainPart p sk) ct ++ hashPart p sk)
-  pub again : again' ≡ encrypted p (keyPart p sk) (decrypted p (plainPart p sk) ct) (drop 32 kr)
+  pub key : kr ≡ sha3-512 (opened p sk ct ++ hashPart p sk)
+  pub again : again' ≡ madeAgain p sk ct
 
 pub record DecapsSpace (p : Params) (sk ct secret again ss : ℕ) : Type 0 where
   pub space : AgainSpace p sk ct secret again

@@ -23,7 +23,7 @@ fn encaps_with(
     let hash = sha3::hash256(public_key);
     let kr = kdf::key_and_coins(&message, &hash);
     pke::encrypt_with(p, public_key, &message, &kr[32..64], secret, ciphertext);
-    let shared = kdf::shared_secret(&kr[0..32], ciphertext);
+    let shared = kdf::secret_under(&kr[0..32], ciphertext);
     lists::copy_at(&shared, output, 0);
 }
 
@@ -63,12 +63,8 @@ fn decaps_with(
 {
     let kr = again_with(p, secret_key, ciphertext, secret, again);
     let z = 416 * p.l + p.pk + 32;
-    let chosen = kdf::chosen_secret(
-        lists::same(again, ciphertext),
-        &kr[0..32],
-        ciphertext,
-        &secret_key[z..],
-    );
+    let different = lists::difference(again, ciphertext);
+    let chosen = kdf::chosen_secret(different, &kr[0..32], &secret_key[z..], ciphertext);
     lists::copy_at(&chosen, output, 0);
 }
 

@@ -1,4 +1,5 @@
 pub mod Booleans
+pub mod Bits
 pub mod Lists
 pub mod Numbers
 pub mod Strings

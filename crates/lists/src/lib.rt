@@ -1,11 +1,12 @@
-// Strings of bytes: copied, compared, joined, and read and written as little-endian numbers.
+// Strings of bytes: copied, compared, chosen, joined, and read and written as little-endian numbers.
+ghost use mathlib.Core.Bool.{cond};
 ghost use mathlib.Core.List.{_++_};
 ghost use mathlib.Core.Path.{_≡_};
 ghost use Prim.Native.Nat.{_+_, _*_, _^_, _<_, _≤_};
+ghost use lib.Dec.{eqb};
 ghost use lib.ListN.{length, take, drop};
 ghost use Rattle.lists.specs.Numbers.{number, digits};
-ghost use Rattle.lists.specs.Strings;
-ghost use Rattle.lists.specs.Strings.{placed};
+ghost use Rattle.lists.specs.Strings.{same, placed};
 
 // Copies a string to a place of a larger one.
 pub fn copy_at(from: &[u8], to: &mut [u8], at: usize)
@@ -19,18 +20,38 @@ pub fn copy_at(from: &[u8], to: &mut [u8], at: usize)
     }
 }
 
-// Whether two strings of one length hold the same bytes. Every byte is compared, also after a difference.
-pub fn same(a: &[u8], b: &[u8]) -> bool
+// The bits in which bytes of two strings of one length differ: 0 where the strings are the same. Every byte is compared, also after a difference.
+pub fn difference(a: &[u8], b: &[u8]) -> u8
     requires { ⌜ length (now a) ≡ length (now b) ⌝ }
-    ensures { λ r. ⌜ r ≡ Strings.same (now (a .entry)) (now (b .entry)) ⌝ }
+    ensures { λ r. ⌜ eqb r 0 ≡ same (now (a .entry)) (now (b .entry)) ⌝ }
 {
-    let mut equal = true;
+    let mut bits = 0u8;
     let mut i = 0;
     while i < a.len() {
-        equal = equal & (a[i] == b[i]);
+        bits = bits | (a[i] ^ b[i]);
         i += 1;
     }
-    equal
+    bits
+}
+
+// a where the difference is 0, else b: the bits in which they differ are turned, or none, by a mask of ones or of zeros.
+fn either(difference: u8, a: u8, b: u8) -> u8
+    ensures { λ r. ⌜ r ≡ cond (eqb difference 0) a b ⌝ }
+{
+    let mask = ((difference as u16 + 255) / 256 * 255) as u8;
+    a ^ (mask & (a ^ b))
+}
+
+// Writes a where the difference is 0, else b, two strings of one length. All bytes of both are read.
+pub fn choose(difference: u8, a: &[u8], b: &[u8], out: &mut [u8])
+    requires { ⌜ (length (now a) ≡ length (now out)) × (length (now b) ≡ length (now out)) ⌝ }
+    ensures { λ _. ⌜ now (out .exit) ≡ cond (eqb difference 0) (now (a .entry)) (now (b .entry)) ⌝ }
+{
+    let mut i = 0;
+    while i < out.len() {
+        out[i] = either(difference, a[i], b[i]);
+        i += 1;
+    }
 }
 
 // Writes two strings, one after the other.

@@ -15,8 +15,7 @@ use Rattle.sponge.specs.Laws.Sponge.{length-sponge}
 use Rattle.sha3.specs.Hashes.{sha3-256, sha3-512}
 use Rattle.pke.specs.Pke.{encrypted, decrypted}
 use Rattle.keys.specs.Keys.{plainPart, keyPart, hashPart, zPart}
-use Rattle.kdf.specs.Kdf.{sharedSecret, rejectedSecret}
-use Rattle.kdf.specs.Laws.Kdf.{length-chosen}
+use Rattle.kdf.specs.Kdf.{secretUnder}
 use Rattle.kem.specs.Kem.{encapsCiphertext, encapsSecret, decapsSecret}
 use Rattle.kem.specs.Promises.{Encapsulated, Decapsulated}
 use Rattle.kem.specs.Rooms.{Encapsulation, MadeAgain, DecapsSpace}
@@ -27,7 +26,7 @@ over h out l k w = w ∙ placed-whole h out (l ∙ sym k)
 
 pub encaps-steps :
     (p : Params) (pk seed ss : List ℕ) {m h kr coins k ct s ss' : List ℕ} → length ss ≡ 32 → m ≡ sha3-256 seed → h ≡ sha3-256 pk →
-    kr ≡ sha3-512 (m ++ h) → coins ≡ drop 32 kr → k ≡ take 32 kr → ct ≡ encrypted p pk m coins → s ≡ sharedSecret k ct →
+    kr ≡ sha3-512 (m ++ h) → coins ≡ drop 32 kr → k ≡ take 32 kr → ct ≡ encrypted p pk m coins → s ≡ secretUnder k ct →
     ss' ≡ placed 0 s ss → Encapsulation p pk seed ct ss'
 unfolding encapsCiphertext encapsSecret
 encaps-steps p pk seed ss {ct = ct} l em eh er ec ek et es ew =
@@ -41,15 +40,15 @@ pub again-steps :
     (p : Params) (sk ct : List ℕ) {plain key hash m kr coins again : List ℕ} → plain ≡ plainPart p sk → key ≡ keyPart p sk →
     hash ≡ hashPart p sk → m ≡ decrypted p plain ct → kr ≡ sha3-512 (m ++ hash) → coins ≡ drop 32 kr → again ≡ encrypted p key m coins →
     MadeAgain p sk ct kr again
-again-steps p sk ct ep ey eh em er ec ea = record { key = er ∙ rw (em, ep, eh); again = ea ∙ rw (ec, em, ep, ey) }
+again-steps p sk ct ep ey eh em er ec ea = record { key = er ∙ rw (em, ep, eh); again = ea ∙ rw (ec, er, em, ep, ey, eh) }
 
 pub decaps-steps :
     (p : Params) (sk ct ss : List ℕ) {equal : Bool} {z kr k again s ss' : List ℕ} → length ss ≡ 32 → MadeAgain p sk ct kr again →
-    z ≡ zPart p sk → k ≡ take 32 kr → equal ≡ same again ct → s ≡ cond equal (sharedSecret k ct) (rejectedSecret k z) →
-    ss' ≡ placed 0 s ss → ss' ≡ decapsSecret p sk ct
+    z ≡ zPart p sk → k ≡ take 32 kr → equal ≡ same again ct → s ≡ secretUnder (cond equal k z) ct → ss' ≡ placed 0 s ss →
+    ss' ≡ decapsSecret p sk ct
 unfolding decapsSecret
-decaps-steps p sk ct ss {equal} l made ez ek eq es ew =
-    over _ ss l (ap length es ∙ length-chosen equal _ _) ew ∙ rw (es, eq, made .again, ek, made .key, ez)
+decaps-steps p sk ct ss l made ez ek eq es ew =
+    over _ ss l (ap length es ∙ length-sponge 136 6 _ 32) ew ∙ rw (es, eq, made .again, ek, made .key, ez)
 
 -- with the work done an answer of 0 is what the call promises
 module _ (set : ℕ) {r : ℕ} {p : Params} (is : p ≡ paramsOf set) (z : r ≡ 0) where

@@ -1,5 +1,6 @@
 -- A loop that writes a list from the front, one element a turn.
 use Prim.Native.Nat.{ℕ, _+_, _-_, _<_, _≤_}
+use mathlib.Core.Bool.{Bool, true, false, cond}
 use mathlib.Core.List.{List, _++_}
 use mathlib.Core.Path.{_≡_, sym, _∙_, ap}
 use native.Mathlib.Omega.{arith}
@@ -34,6 +35,16 @@ pub fill-all : {n i : ℕ} {l : List ℕ} {f : ℕ → ℕ} → n ≤ i → Fill
 fill-all {n} {i} {l} {f} hi h =
     ext-getD 0 l (from n f) (h .size ∙ sym (length-from n f))
     (λ k hk. h .at k (omega (arith, h .size)) ∙ sym (from-at n f 0 k (omega (arith, h .size))))
+
+-- where the elements are those of another list, and where they are those of one of two
+fill-list : {n i : ℕ} {l s : List ℕ} → n ≤ i → length s ≡ n → Filled n l i (λ k. getD s k 0) → l ≡ s
+fill-list {l = l} {s} hi e h = ext-getD 0 l s (h .size ∙ sym e) (λ k hk. h .at k (omega (arith, h .size)))
+
+pub fill-chosen :
+    (flag : Bool) (a b : List ℕ) {n i : ℕ} {l : List ℕ} → length a ≡ n → length b ≡ n → n ≤ i →
+    Filled n l i (λ k. cond flag (getD a k 0) (getD b k 0)) → l ≡ cond flag a b
+fill-chosen true a b la lb hi h = fill-list hi la h
+fill-chosen false a b la lb hi h = fill-list hi lb h
 
 -- the part that is written already
 pub fill-front : {n i : ℕ} {l : List ℕ} {f : ℕ → ℕ} → Filled n l i f → take i l ≡ from i f

@@ -6,12 +6,14 @@ use mathlib.Core.Path.{_≡_, refl, ap, ap₂, sym, _∙_}
 use native.Mathlib.Nat.{zero-add}
 use native.Mathlib.Numerals.{add-one}
 use native.Mathlib.Omega.{arith}
+use lib.Bits.{bitOr, bitXor}
 use lib.Dec.{eqb}
 use lib.ListN.{length, take, drop, getD, drop-of-length-le}
 use lib.Seq.{paste, take-all, take-length, take-paste, length-paste}
 use borrow.Author.Tests.{eq-eqb, eqb-true}
 use Rattle.lists.specs.Strings.{same, placed}
 use Rattle.lists.specs.Laws.Booleans.{and-left, and-right, and-true, and-assoc}
+use Rattle.lists.specs.Laws.Bits.{gathered}
 
 pub same-refl : (a : List ℕ) → same a a ≡ true
 unfolding same
@@ -38,9 +40,10 @@ front-more (x ∷ a) (y ∷ b) (suc i) h k =
     ap (λ (c : Bool). eqb x y && c) (front-more a b i (omega arith) (omega arith)) ∙ and-assoc (eqb x y) _ _
 
 pub same-more :
-    (a b : List ℕ) (i : ℕ) (equal : Bool) → i < length a → length a ≡ length b → equal ≡ same (take i a) (take i b) →
-    equal && eqb (getD a i 0) (getD b i 0) ≡ same (take (i + 1) a) (take (i + 1) b)
-same-more a b i equal h l e = rw (e, add-one i) (sym (front-more a b i h (omega arith)))
+    (a b : List ℕ) (i bits : ℕ) → i < length a → length a ≡ length b → eqb bits 0 ≡ same (take i a) (take i b) →
+    eqb (bitOr bits (bitXor (getD a i 0) (getD b i 0))) 0 ≡ same (take (i + 1) a) (take (i + 1) b)
+same-more a b i bits h l e =
+    gathered bits (getD a i 0) (getD b i 0) ∙ rw (e, add-one i) (sym (front-more a b i h (omega arith)))
 
 -- all bytes
 pub same-all : (a b : List ℕ) (i : ℕ) → length a ≤ i → length a ≡ length b → same (take i a) (take i b) ≡ same a b

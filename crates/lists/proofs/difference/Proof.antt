@@ -1,26 +1,27 @@
--- `lists::same` meets its contract: after i bytes the flag is the comparison of the first i.
+-- `lists::difference` meets its contract: after i bytes the bits are none just where the first i are the same.
 use Prim.Native.Nat.{_≤_, _-_}
 use mathlib.Core.Path.{_≡_, refl, _∙_}
 use native.Mathlib.Omega.{arith}
+use lib.Dec.{eqb}
 use lib.ListN.{length, take}
 use borrow.Author.Needs.{needs}
 use Rattle.lists.specs.Strings.{same}
 use Rattle.lists.specs.Laws.Strings.{same-more, same-all}
-use Rattle.lists.proofs.same.Statement.{statement}
-use Rattle.lists.proofs.same.Tie as tie
+use Rattle.lists.proofs.difference.Statement.{statement}
+use Rattle.lists.proofs.difference.Tie as tie
 
 abbrev Inv-loop : tie.InvT-loop
-Inv-loop a b equal₀ i₀ equal i = (i ≤ length a) × (equal ≡ same (take i a) (take i b))
+Inv-loop a b bits₀ i₀ bits i = (i ≤ length a) × (eqb bits 0 ≡ same (take i a) (take i b))
 
 abbrev μ-loop : tie.MeasureT-loop
-μ-loop a b equal₀ i₀ equal i = length a - i
+μ-loop a b bits₀ i₀ bits i = length a - i
 
 loop-holds : tie.Need-loop-holds Inv-loop μ-loop
 unfolding same
 loop-holds c = (search needs, refl)
 
-pub same-spec : {M : Type 1} → statement M
-same-spec =
+pub difference-spec : {M : Type 1} → statement M
+difference-spec =
     tie.close
     (tie.spec
     Inv-loop
@@ -33,7 +34,7 @@ same-spec =
     (λ c.
     let start = c .before .before .before .before in
     let at = c .before .before .before .loop in
-    (omega arith, same-more (start .args .a .now) (start .args .b .now) (at .i) (at .equal) (omega arith) (start .pre) (at .inv .1)))
+    (omega arith, same-more (start .args .a .now) (start .args .b .now) (at .i) (at .bits) (omega arith) (start .pre) (at .inv .1)))
     (λ c.
     let start = c .before .before in
     c .before .loop .inv .1 ∙ same-all (start .args .a .now) (start .args .b .now) (c .before .loop .i) (omega arith) (start .pre)))
