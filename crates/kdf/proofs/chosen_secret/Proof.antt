@@ -11,4 +11,4 @@ chosen-secret-spec =
     (λ c κs. search needs)
     (λ c. search needs)
     (λ c κs. search needs)
-    (λ c. cc))
+    (λ c. rw (c .before .before .before .choose .ensures) at (c .secret-under .ensures)))

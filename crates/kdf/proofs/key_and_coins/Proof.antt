@@ -11,4 +11,4 @@ key-and-coins-spec =
     (λ c κs. search needs)
     (λ c. search needs)
     (λ c κs. search needs)
-    (λ c. cc))
+    (λ c. rw (c .before .before .before .join .ensures) at (c .hash512 .ensures)))

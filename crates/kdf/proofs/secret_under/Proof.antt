@@ -13,4 +13,6 @@ secret-under-spec =
     (λ c κs. search needs)
     (λ c. search needs)
     (λ c κs. search needs)
-    (λ c. cc))
+    (λ c.
+    let joined = c .before .before .before in
+    rw (joined .join .ensures, joined .before .before .before .hash256 .ensures) at (c .hash2562 .ensures)))
