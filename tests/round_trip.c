@@ -72,16 +72,21 @@ static void round_trip(uint32_t number) {
     inside = saber_public_key_of(number, secret_key, sk - 1, &count);
     CHECK(inside == secret_key && count == 0);
 
-    // A refusal leaves the output as it was; a damaged ciphertext is no refusal and gives another secret.
+    // A refusal leaves the output as it was; a damaged ciphertext is no refusal and gives the rejected secret.
     CHECK(saber_decaps(number, secret_key, sk - 1, ciphertext, ct, received, SECRET) == SABER_SECRET_KEY_LENGTH);
     CHECK(saber_decaps(number, secret_key, sk, ciphertext, ct - 1, received, SECRET) == SABER_CIPHERTEXT_LENGTH);
     CHECK(memcmp(sent, received, SECRET) == 0);
     ciphertext[0] ^= 1;
     CHECK(saber_decaps(number, secret_key, sk, ciphertext, ct, received, SECRET) == SABER_OK);
     CHECK(memcmp(sent, received, SECRET) != 0);
+    uint8_t *hashed_last = block(2 * SECRET);
+    memcpy(hashed_last, z, SECRET);
+    CHECK(saber_sha3_256(ciphertext, ct, hashed_last + SECRET, SECRET) == SABER_OK);
+    CHECK(saber_sha3_256(hashed_last, 2 * SECRET, sent, SECRET) == SABER_OK);
+    CHECK(memcmp(sent, received, SECRET) == 0);
 
     uint8_t *blocks[] = {matrix_seed, secret_seed, z,        seed,    public_key, secret_key,
-                         ciphertext,  sent,        received, message, hashed};
+                         ciphertext,  sent,        received, message, hashed,     hashed_last};
     for (size_t i = 0; i < sizeof blocks / sizeof *blocks; i++)
         free(blocks[i]);
     printf("%u %s: round trip, records\n", (unsigned)number, sets[number].name);

@@ -26,6 +26,10 @@ fn round_trip(number: u32, set: Set) {
     ciphertext[0] ^= 1;
     assert_eq!(saber::decaps(number, &keys.secret, &ciphertext, &mut received), Ok(()));
     assert_ne!(sent, received);
+    let mut rejected = [0; SEED];
+    assert_eq!(saber::sha3_256(&ciphertext, &mut hashed), Ok(()));
+    assert_eq!(saber::sha3_256(&[[3; SEED], hashed].concat(), &mut rejected), Ok(()));
+    assert_eq!(rejected, received);
 }
 
 #[test]
