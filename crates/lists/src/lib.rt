@@ -20,7 +20,8 @@ pub fn copy_at(from: &[u8], to: &mut [u8], at: usize)
     }
 }
 
-// The bits in which bytes of two strings of one length differ: 0 where the strings are the same. Every byte is compared, also after a difference.
+// The bits in which bytes of two strings of one length differ, gathered: 0 where the strings are the same. Every byte is compared, also after a
+// difference.
 pub fn difference(a: &[u8], b: &[u8]) -> u8
     requires { ⌜ length (now a) ≡ length (now b) ⌝ }
     ensures { λ r. ⌜ eqb r 0 ≡ same (now (a .entry)) (now (b .entry)) ⌝ }
@@ -34,7 +35,8 @@ pub fn difference(a: &[u8], b: &[u8]) -> u8
     bits
 }
 
-// a where the difference is 0, else b: the bits in which they differ are turned, or none, by a mask of ones or of zeros.
+// a where the difference is 0, else b: a mask of ones or of zeros turns the bits of a in which they differ, or none. Of a `bool` in place of the
+// difference the compiler makes a choice of two addresses.
 fn either(difference: u8, a: u8, b: u8) -> u8
     ensures { λ r. ⌜ r ≡ cond (eqb difference 0) a b ⌝ }
 {
