@@ -2,8 +2,8 @@
 ghost use mathlib.Core.Bool.{cond};
 ghost use mathlib.Core.List.{_++_};
 ghost use mathlib.Core.Path.{_≡_};
-ghost use lib.Dec.{eqb};
 ghost use lib.ListN.{length};
+ghost use Rattle.lists.specs.Strings.{same};
 ghost use Rattle.sha3.specs.Hashes.{sha3-512};
 ghost use Rattle.kdf.specs.Kdf.{secretUnder};
 
@@ -28,12 +28,14 @@ pub fn secret_under(key: &[u8], ciphertext: &[u8]) -> [u8; 32]
     sha3::hash256(&input)
 }
 
-// The secret of a ciphertext under k where the difference is 0, else under z, by the same steps.
-pub fn chosen_secret(difference: u8, k: &[u8], z: &[u8], ciphertext: &[u8]) -> [u8; 32]
-    requires { ⌜ (length (now k) ≡ 32) × (length (now z) ≡ 32) ⌝ }
-    ensures { λ r. ⌜ r ≡ secretUnder (cond (eqb difference 0) (now (k .entry)) (now (z .entry))) (now (ciphertext .entry)) ⌝ }
+// The secret of a ciphertext under k where it is the one made again, else under z, by the same steps.
+pub fn chosen_secret(k: &[u8], z: &[u8], again: &[u8], ciphertext: &[u8]) -> [u8; 32]
+    requires { ⌜ (length (now k) ≡ 32) × (length (now z) ≡ 32) × (length (now again) ≡ length (now ciphertext)) ⌝ }
+    ensures { λ r. ⌜ r ≡
+        secretUnder (cond (same (now (again .entry)) (now (ciphertext .entry))) (now (k .entry)) (now (z .entry))) (now (ciphertext .entry)) ⌝ }
 {
+    let different = lists::difference(again, ciphertext);
     let mut key = [0u8; 32];
-    lists::choose(difference, k, z, &mut key);
+    lists::choose(different, k, z, &mut key);
     secret_under(&key, ciphertext)
 }

@@ -63,8 +63,7 @@ fn decaps_with(
 {
     let kr = again_with(p, secret_key, ciphertext, secret, again);
     let z = 416 * p.l + p.pk + 32;
-    let different = lists::difference(again, ciphertext);
-    let chosen = kdf::chosen_secret(different, &kr[0..32], &secret_key[z..], ciphertext);
+    let chosen = kdf::chosen_secret(&kr[0..32], &secret_key[z..], again, ciphertext);
     lists::copy_at(&chosen, output, 0);
 }
 

@@ -1,4 +1,4 @@
--- `kem::decaps_with` meets its contract: the comparison chooses the key of the secret, which is written.
+-- `kem::decaps_with` meets its contract: the secret is chosen by the ciphertext made again, and written.
 use Prim.Native.Nat.{_+_, _*_}
 use mathlib.Core.Path.{refl}
 use native.Mathlib.Omega.{arith}
@@ -8,15 +8,12 @@ use Rattle.kem.specs.Laws.Kem.{decaps-steps}
 use Rattle.kem.proofs.decaps_with.Statement.{statement}
 use Rattle.kem.proofs.decaps_with.Tie as tie
 
--- the places before the chosen secret is copied: where it was made, where the ciphertexts were compared, and the steps made again before that
+-- the places before the chosen secret is copied: where it was chosen, the steps made again before that, and the start
 abbrev chosen : tie.After-copy-at-arg → tie.After-chosen-secret
 chosen c = c .before .before
 
-abbrev compared : tie.After-copy-at-arg → tie.After-difference
-compared c = chosen c .before .before .before .before
-
 abbrev again : tie.After-copy-at-arg → tie.After-again-with
-again c = compared c .before .before .before .before .before .before .before .before
+again c = chosen c .before .before .before .before .before .before .before .before .before .before .before
 
 abbrev start : tie.After-copy-at-arg → tie.Start
 start c = again c .before .before .before .before .before .before .before .before
@@ -27,7 +24,7 @@ returns c =
     let copy = last .before in
     let a = start copy .args in
     decaps-steps _ _ _ _ (start copy .pre .ssLong) (again copy .again-with .ensures)
-    (last-part (416 * a .p .l + a .p .pk + 32) _ (a .«secret-key» .now) refl) refl (compared copy .difference .ensures)
+    (last-part (416 * a .p .l + a .p .pk + 32) _ (a .«secret-key» .now) refl) refl
     (chosen copy .chosen-secret .ensures) (last .copy-at .ensures)
 
 pub decaps-with-spec : {M : Type 1} → statement M
@@ -38,7 +35,6 @@ decaps-with-spec =
     (λ c. search needs)
     (λ c. search needs)
     (λ c. search needs)
-    (λ c κs. search needs)
     (λ c. search needs)
     (λ c. search needs)
     (λ c. search needs)

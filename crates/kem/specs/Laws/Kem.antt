@@ -1,6 +1,6 @@
 -- Laws of the key encapsulation: the steps of each function, which together are its definition, and what a call then promises.
 use Prim.Native.Nat.{ℕ, _*_}
-use mathlib.Core.Bool.{Bool, cond}
+use mathlib.Core.Bool.{cond}
 use mathlib.Core.List.{List, _++_}
 use mathlib.Core.Path.{_≡_, sym, ap, _∙_}
 use lib.ListN.{length, take, drop}
@@ -43,12 +43,12 @@ pub again-steps :
 again-steps p sk ct ep ey eh em er ec ea = record { key = er ∙ rw (em, ep, eh); again = ea ∙ rw (ec, er, em, ep, ey, eh) }
 
 pub decaps-steps :
-    (p : Params) (sk ct ss : List ℕ) {equal : Bool} {z kr k again s ss' : List ℕ} → length ss ≡ 32 → MadeAgain p sk ct kr again →
-    z ≡ zPart p sk → k ≡ take 32 kr → equal ≡ same again ct → s ≡ secretUnder (cond equal k z) ct → ss' ≡ placed 0 s ss →
+    (p : Params) (sk ct ss : List ℕ) {z kr k again s ss' : List ℕ} → length ss ≡ 32 → MadeAgain p sk ct kr again →
+    z ≡ zPart p sk → k ≡ take 32 kr → s ≡ secretUnder (cond (same again ct) k z) ct → ss' ≡ placed 0 s ss →
     ss' ≡ decapsSecret p sk ct
 unfolding decapsSecret
-decaps-steps p sk ct ss l made ez ek eq es ew =
-    over _ ss l (ap length es ∙ length-sponge 136 6 _ 32) ew ∙ rw (es, eq, made .again, ek, made .key, ez)
+decaps-steps p sk ct ss l made ez ek es ew =
+    over _ ss l (ap length es ∙ length-sponge 136 6 _ 32) ew ∙ rw (es, made .again, ek, made .key, ez)
 
 -- with the work done an answer of 0 is what the call promises
 module _ (set : ℕ) {r : ℕ} {p : Params} (is : p ≡ paramsOf set) (z : r ≡ 0) where
