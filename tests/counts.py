@@ -17,14 +17,9 @@ ROOT = Path(__file__).resolve().parent.parent
 sys.path.append(str(ROOT / "oracle"))
 
 import saber
+from linked import linked
 
 DAMAGES = range(4)  # as tests/counts.c has them
-
-
-def compile_to(program):
-    options = ["-std=c99", "-O2", "-Wall", "-Wextra", "-pedantic", "-Werror", "-I", ROOT / "include"]
-    archive = ROOT / "target" / "staticlib" / "libsaber.a"
-    subprocess.run(["cc", *options, "-o", program, ROOT / "tests" / "counts.c", archive], check=True)
 
 
 def instructions(program, set_number, damage):
@@ -37,10 +32,11 @@ def instructions(program, set_number, damage):
 def main():
     different = 0
     with tempfile.TemporaryDirectory() as folder:
-        program = Path(folder) / "counts"
-        compile_to(program)
+        program = linked("counts", folder)
         for number in saber.NUMBERS:
             accepted, *rejected = (instructions(program, number, damage) for damage in DAMAGES)
+            if not accepted:
+                sys.exit("counts: callgrind saw no call of saber_decaps")
             different += sum(count != accepted for count in rejected)
             print(f"decaps, set {number}: {accepted} instructions, rejected {rejected}")
     print(f"counts: {len(saber.NUMBERS) * (len(DAMAGES) - 1)} rejected ciphertexts, {different} differences")

@@ -21,6 +21,7 @@ sys.path.append(str(ROOT / "oracle"))
 
 import saber
 from calls import CALLS
+from linked import linked
 
 KINDS = {"UninitCondition": "jump", "UninitValue": "address"}
 RUN = {name for name, call in CALLS.items() if call.outputs}  # a lookup reads no content
@@ -38,12 +39,6 @@ LISTED = {
     ("jump", "control_jump"): (1, CONTROL),
     ("address", "control_address"): (1, CONTROL),
 }
-
-
-def compile_to(program):
-    options = ["-std=c99", "-Wall", "-Wextra", "-pedantic", "-Werror", "-I", ROOT / "include"]
-    archive = ROOT / "target" / "staticlib" / "libsaber.a"
-    subprocess.run(["cc", *options, "-o", program, ROOT / "tests" / "secrets.c", archive], check=True)
 
 
 def memcheck(program, set_number):
@@ -89,8 +84,7 @@ def main():
         print("skipped: tests/secrets.py (no valgrind)")
         return 0
     with tempfile.TemporaryDirectory() as folder:
-        program = Path(folder) / "secrets"
-        compile_to(program)
+        program = linked("secrets", folder)
         runs = [memcheck(program, set_number) for set_number in saber.NUMBERS]
     wrong = [f"secrets, set {i}, {line}" for i, run in enumerate(runs) for line in differences(*run)]
     wrong += [f"secrets, {name}: Q8 and the list differ" for name in sorted(asked_content() ^ listed_content())]
