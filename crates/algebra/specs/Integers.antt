@@ -1,5 +1,6 @@
--- Whole numbers: how far they lie above and below zero, residues and quotients, and sums by a count.
-use Prim.Native.Nat.{ℕ, zero, suc, _-_, _/_, _%_}
+-- Whole numbers: how far they lie above and below zero, residues and quotients, sums by a count, and numbers that are the same modulo m.
+use Prim.Native.Nat.{ℕ, zero, suc, _+_, _*_, _-_, _/_, _%_}
+use mathlib.Core.Path.{_≡_}
 use lib.IntN.{ℤ, pos, negsuc, _+ℤ_}
 
 -- z is up z - dn z, one of which is 0
@@ -25,3 +26,9 @@ quotℤ (negsuc a) m = negsuc (a / m)
 unfoldable pub sum : ℕ → (ℕ → ℤ) → ℤ
 sum zero f = pos 0
 sum (suc m) f = sum m f +ℤ f m
+
+-- x and y differ by a multiple of m
+pub record Same (m : ℕ) (x y : ℤ) : Type 0 where
+  pub less : ℕ
+  pub more : ℕ
+  pub eq : up x + dn y + m * less ≡ up y + dn x + m * more

@@ -7,3 +7,5 @@ pub mod Product
 pub mod Reduced
 pub mod Table
 pub mod Vectors
+pub mod Lines
+pub mod Halves

@@ -1,4 +1,5 @@
 pub mod Integers
 pub mod Ring
 pub mod Columns
+pub mod Halves
 pub mod Laws

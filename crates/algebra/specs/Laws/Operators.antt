@@ -94,7 +94,7 @@ module _ (n : ℕ) where
       (a : List ℤ) (f : ℕ → ℤ) (r : ℕ) → length a ≤ r → r ≤ n → (k : ℕ) → k < n →
       act (ops n) a f k ≡ sum r (λ i. at a i *ℤ doubled n f (n - suc k + i))
   unfolding act
-  act-doubled [] f r la hr k h = sym (sum-none r _ (λ i. zero-*ℤ (doubled n f (n - suc k + i))))
+  act-doubled [] f r la hr k h = sym (sum-none r _ (λ i hi. zero-*ℤ (doubled n f (n - suc k + i))))
   act-doubled (a ∷ as′) f zero la hr k h = absurd (omega arith)
   act-doubled (a ∷ as′) f (suc r) la hr k h =
       ap₂ _+ℤ_ (ap (λ z. a *ℤ z) (doubled-last f k h))

@@ -8,11 +8,11 @@ use lib.IntN.{ℤ, pos, _+ℤ_, _*ℤ_, *ℤ-comm, *ℤ-zero}
 use lib.ListN.{getD, take, drop, List·getD-map}
 use Rattle.lists.specs.Lists.{from}
 use Rattle.lists.specs.Laws.Lists.{from-cong, map-from}
-use Rattle.algebra.specs.Integers.{modℤ, sum}
+use Rattle.algebra.specs.Integers.{modℤ, sum, Same}
 use Rattle.algebra.specs.Ring.{at, coef, inner, nat, residues}
-use Rattle.algebra.specs.Laws.Whole.{eqℤ, add-split, mul-addℤ, mul-leftℤ}
+use Rattle.algebra.specs.Laws.Whole.{add-swapℤ, mul-addℤ, mul-leftℤ}
 use Rattle.algebra.specs.Laws.Sums.{sum-next}
-use Rattle.algebra.specs.Laws.Residues.{Same, mod-of, mod-to, mod-part, mod-bound, same-refl, same-add, same-neg, same-scale}
+use Rattle.algebra.specs.Laws.Residues.{mod-of, mod-to, mod-part, mod-bound, same-refl, same-add, same-neg, same-scale}
 use Rattle.algebra.specs.Laws.Residues.{same-mul, same-sum, same-residue}
 use Rattle.algebra.specs.Columns.{doubled, table, dot}
 use Rattle.algebra.specs.Laws.Table.{coef-doubled, coef-table}
@@ -92,11 +92,6 @@ inner-residues m hm n l a a′ b b′ p q =
     same-coef n (a i) (a′ i) (b i) (b′ i) (same-at m hm (a i) (a′ i) (p i hi)) (same-at m hm (b i) (b′ i) (q i hi)) k)))
     ∙ sym (map-from (λ z. modℤ z m) n _)
 
-four : (w x y z : ℤ) → (w +ℤ x) +ℤ (y +ℤ z) ≡ (w +ℤ y) +ℤ (x +ℤ z)
-four w x y z =
-    let a = add-split in
-    eqℤ _ _ (omega (arith, a (w +ℤ x) (y +ℤ z), a w x, a y z, a (w +ℤ y) (x +ℤ z), a w y, a x z))
-
 -- an equation c a = b + d modulo m of the coefficients of vectors holds of their inner products with s
 module _ {m : ℕ} (c : ℤ) where
   sum-carries :
@@ -105,7 +100,7 @@ module _ {m : ℕ} (c : ℤ) where
   unfolding sum
   sum-carries zero f g h e = rw (*ℤ-zero c) (same-refl (pos 0))
   sum-carries (suc l) f g h e =
-      rw (mul-addℤ c (sum l f) (f l), four (sum l g) (g l) (sum l h) (h l))
+      rw (mul-addℤ c (sum l f) (f l), add-swapℤ (sum l g) (g l) (sum l h) (h l))
       (same-add (sum-carries l f g h (λ i hi. e i (omega arith))) (e l (omega arith)))
 
   scale-carries : (x y z w : ℤ) → Same m (c *ℤ x) (y +ℤ z) → Same m (c *ℤ (x *ℤ w)) (y *ℤ w +ℤ z *ℤ w)

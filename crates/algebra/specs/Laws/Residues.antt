@@ -4,7 +4,7 @@ use mathlib.Core.Path.{_≡_, refl, sym, _∙_, ap}
 use native.Mathlib.Nat.{add-mul-mod-self-left, div-add-mod, mod-lt, mod-eq-of-lt}
 use native.Mathlib.Omega.{arith}
 use lib.IntN.{ℤ, pos, negsuc, negℤ, _+ℤ_, _*ℤ_, _-ℤ_, *ℤ-comm}
-use Rattle.algebra.specs.Integers.{up, dn, modℤ, quotℤ, sum}
+use Rattle.algebra.specs.Integers.{up, dn, modℤ, quotℤ, sum, Same}
 use Rattle.algebra.specs.Laws.Whole.{up-neg, dn-neg, add-split, up-mul, dn-mul}
 
 pub mod-split : (z : ℤ) (m : ℕ) → 0 < m → up z + m * dn (quotℤ z m) ≡ dn z + (modℤ z m + m * up (quotℤ z m))
@@ -18,12 +18,6 @@ mod-bound (negsuc a) m h = omega arith
 -- of natural numbers, with the multiples given
 pub same-mod : (m x y a b : ℕ) → x + m * a ≡ y + m * b → x % m ≡ y % m
 same-mod m x y a b e = sym (add-mul-mod-self-left x m a) ∙ ap (λ (t : ℕ). t % m) e ∙ add-mul-mod-self-left y m b
-
--- x and y differ by a multiple of m
-pub record Same (m : ℕ) (x y : ℤ) : Type 0 where
-  pub less : ℕ
-  pub more : ℕ
-  pub eq : up x + dn y + m * less ≡ up y + dn x + m * more
 
 module _ (m : ℕ) (hm : 0 < m) where
   pub mod-of : {x y : ℤ} → Same m x y → modℤ x m ≡ modℤ y m
@@ -48,6 +42,9 @@ module _ (m : ℕ) (hm : 0 < m) where
 module _ {m : ℕ} where
   pub same-refl : (x : ℤ) → Same m x x
   same-refl x = record { less = 0; more = 0; eq = refl }
+
+  pub same-eq : {x y : ℤ} → x ≡ y → Same m x y
+  same-eq {x} {y} e = rw e (same-refl y)
 
   pub same-sym : {x y : ℤ} → Same m x y → Same m y x
   same-sym c = record { less = c .more; more = c .less; eq = sym (c .eq) }
@@ -77,6 +74,20 @@ module _ {m : ℕ} where
   unfolding sum
   same-sum zero e = same-refl (pos 0)
   same-sum (suc l) e = same-add (same-sum l (λ i h. e i (omega arith))) (e l (omega arith))
+
+  -- a sum, a difference and a product of natural numbers, modulo m
+  pub same-plus : (x y : ℕ) {r : ℕ} → r ≡ (x + y) % m → Same m (pos r) (pos x +ℤ pos y)
+  same-plus x y e = record { less = (x + y) / m; more = 0; eq = omega (arith, div-add-mod (x + y) m) }
+
+  pub same-minus : (x y : ℕ) {r : ℕ} → (r + y) % m ≡ x → Same m (pos r) (pos x -ℤ pos y)
+  same-minus x y {r} e = record {
+    less = 0;
+    more = (r + y) / m;
+    eq = omega (arith, add-split (pos x) (negℤ (pos y)), up-neg (pos y), dn-neg (pos y), div-add-mod (r + y) m);
+  }
+
+  pub same-times : (x y : ℕ) {r : ℕ} → r ≡ x * y % m → Same m (pos r) (pos x *ℤ pos y)
+  same-times x y e = record { less = x * y / m; more = 0; eq = omega (arith, div-add-mod (x * y) m) }
 
 -- from a modulus to one that divides it
 pub same-part : (c m : ℕ) {x y : ℤ} → Same (c * m) x y → Same m x y

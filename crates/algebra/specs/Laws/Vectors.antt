@@ -4,11 +4,9 @@ use mathlib.Core.List.{List, [], _∷_, _++_, map, map-append}
 use mathlib.Core.Path.{_≡_, refl, _∙_, ap, ap₂}
 use native.Mathlib.Decide.{decLt}
 use native.Mathlib.Nat.{mul-le-mul-left, mul-suc}
-use native.Mathlib.Numerals.{add-one}
 use native.Mathlib.Omega.{arith}
 use lib.ListN.{length, take, drop, length-append, length-take, length-drop}
 use lib.Seq.{take-append-le, drop-append-le, drop-at, take-all}
-use Rattle.lists.specs.Laws.Parts.{Prefix}
 use Rattle.algebra.specs.Ring.{poly, blocks}
 
 pub length-poly : {A : Type 0} (s : List A) (i : ℕ) → length (poly s i) ≤ 256
@@ -79,9 +77,3 @@ pub map-blocks : {A B : Type 0} (g : A → B) (l : ℕ) (f : ℕ → List A) →
 unfolding blocks
 map-blocks g zero f = refl
 map-blocks g (suc l) f = map-append g (blocks l f) (f l) ∙ ap (λ t. t ++ map g (f l)) (map-blocks g l f)
-
--- a list written from the front, block by block
-pub prefix-block :
-    (w i : ℕ) (f : ℕ → List ℕ) {N : ℕ} {s y : List ℕ} → y ≡ f i → Prefix N s (w * i + w) (blocks i f ++ y) →
-    Prefix N s (w * (i + 1)) (blocks (i + 1) f)
-prefix-block w i f e h = rw (add-one, mul-suc w i, blocks-suc i f, ← e) h

@@ -53,6 +53,11 @@ dn-mul (negsuc a) (pos b) = dn-neg (pos (suc a * b)) ∙ omega arith
 dn-mul (negsuc a) (negsuc b) = omega arith
 
 -- the laws of a ring that `lib.IntN` lacks
+pub add-swapℤ : (w x y z : ℤ) → (w +ℤ x) +ℤ (y +ℤ z) ≡ (w +ℤ y) +ℤ (x +ℤ z)
+add-swapℤ w x y z =
+    let a = add-split in
+    eqℤ _ _ (omega (arith, a (w +ℤ x) (y +ℤ z), a w x, a y z, a (w +ℤ y) (x +ℤ z), a w y, a x z))
+
 pub mul-addℤ : (x y z : ℤ) → x *ℤ (y +ℤ z) ≡ x *ℤ y +ℤ x *ℤ z
 mul-addℤ x y z =
     let u = ap (λ (t : ℕ). up x * t) (add-split y z) in

@@ -6,9 +6,9 @@ use native.Mathlib.Omega.{arith}
 use lib.IntN.{ℤ, pos, _+ℤ_, _*ℤ_, _-ℤ_}
 use lib.ListN.{length, getD, List·getD-map}
 use Rattle.lists.specs.Laws.Lists.{from-at}
-use Rattle.algebra.specs.Integers.{modℤ}
+use Rattle.algebra.specs.Integers.{modℤ, Same}
 use Rattle.algebra.specs.Laws.Whole.{add-split, up-mul, dn-mul}
-use Rattle.algebra.specs.Laws.Residues.{Same, mod-of, same-residue, same-sym, same-trans}
+use Rattle.algebra.specs.Laws.Residues.{mod-of, same-residue, same-sym, same-trans}
 use Rattle.algebra.specs.Ring.{at, inner, nat, residues}
 use Rattle.algebra.specs.Laws.Product.{inner-adjoint}
 use Rattle.algebra.specs.Laws.Reduced.{at-nat, at-residues, inner-carries}

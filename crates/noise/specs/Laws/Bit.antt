@@ -5,9 +5,9 @@ use mathlib.Core.Path.{_≡_}
 use native.Mathlib.Nat.{div-add-mod}
 use native.Mathlib.Omega.{arith}
 use lib.IntN.{ℤ, pos, _+ℤ_, _-ℤ_}
-use Rattle.algebra.specs.Integers.{up, dn, modℤ, quotℤ}
+use Rattle.algebra.specs.Integers.{up, dn, modℤ, quotℤ, Same}
 use Rattle.algebra.specs.Laws.Whole.{add-split}
-use Rattle.algebra.specs.Laws.Residues.{Same, mod-split, mod-bound, mod-of, same-residue, same-refl}
+use Rattle.algebra.specs.Laws.Residues.{mod-split, mod-bound, mod-of, same-residue, same-refl}
 use Rattle.reconciliation.specs.Reconciliation.{dataOf, bitOf, masked}
 use Rattle.noise.specs.Noise.{around, Lies, bound, Fits, offset, Near}
 use Rattle.noise.specs.Laws.Errors.{one-sign, sub-split, around-is}

@@ -6,9 +6,9 @@ use native.Mathlib.Nat.{mod-eq-of-lt}
 use native.Mathlib.Omega.{arith}
 use lib.IntN.{ℤ, pos, negsuc, negℤ, _+ℤ_, _*ℤ_, _-ℤ_}
 use lib.ListN.{List·getD-map}
-use Rattle.algebra.specs.Integers.{up, dn, modℤ}
+use Rattle.algebra.specs.Integers.{up, dn, modℤ, Same}
 use Rattle.algebra.specs.Laws.Whole.{eqℤ, up-neg, dn-neg, add-split}
-use Rattle.algebra.specs.Laws.Residues.{Same, mod-of, same-residue}
+use Rattle.algebra.specs.Laws.Residues.{mod-of, same-residue}
 use Rattle.algebra.specs.Ring.{at}
 use Rattle.rounding.specs.Rounding.{round}
 use Rattle.noise.specs.Noise.{around, Lies, error, times, errors}
