@@ -1,24 +1,22 @@
-// The product of two polynomials with X^256 = -1, gathered modulo 65536 and then reduced.
+// The product of two polynomials with X^256 = -1, made modulo 65536 and then reduced.
 ghost use mathlib.Core.Bool.{true};
 ghost use mathlib.Core.List.{map};
 ghost use mathlib.Core.Path.{_≡_};
 ghost use Prim.Native.Nat.{ℕ, _*_, _%_};
-ghost use lib.IntN.{_+ℤ_};
 ghost use lib.ListN.{length};
-ghost use Rattle.lists.specs.Lists.{from};
 ghost use Rattle.questions.specs.Answers.{earliest};
 ghost use Rattle.algebra.specs.Integers.{modℤ};
-ghost use Rattle.algebra.specs.Ring.{at, coef, nat, residues};
+ghost use Rattle.algebra.specs.Ring.{nat, residues};
 ghost use Rattle.algebra.specs.Columns.{table};
 ghost use Rattle.ring.specs.Products.{isModulus, mulQuestions};
 ghost use Rattle.ring.specs.Promises.{Multiplied};
-ghost use Rattle.ring.specs.Rooms.{Factors, Reduces};
+ghost use Rattle.ring.specs.Rooms.{Factors};
 use questions::all_below;
 use questions::ask;
 use std::num;
 
 // x y modulo 65536.
-fn times(x: u16, y: u16) -> u16
+pub fn times(x: u16, y: u16) -> u16
     ensures { λ r. ⌜ r ≡ x * y % 65536 ⌝ }
 {
     (x as u32 * y as u32 % 65536) as u16
@@ -57,22 +55,20 @@ fn doubled(b: &[u16]) -> [u16; 512]
     w
 }
 
-// acc + a b, modulo 65536.
-pub fn mul_add(acc: [u16; 256], a: &[u16], b: &[u16]) -> [u16; 256]
-    requires { ⌜ Factors (length (now a)) (length (now b)) ⌝ }
-    ensures { λ r. ⌜ r ≡ from 256 (λ (k : ℕ). modℤ (at (nat acc) k +ℤ coef 256 (nat (now (a .entry))) (nat (now (b .entry))) k) 65536) ⌝ }
+// a b, modulo 65536.
+fn mul_into(a: &[u16], b: &[u16], product: &mut [u16])
+    requires { ⌜ Factors (length (now a)) (length (now b)) (length (now product)) ⌝ }
+    ensures { λ _. ⌜ now (product .exit) ≡ Rattle.ring.specs.Products.product 65536 (now (a .entry)) (now (b .entry)) ⌝ }
 {
     let p = &a[..256];
     let w = doubled(b);
-    let mut out = [0u16; 256];
     let mut k = 0;
     while k < 256 {
         let s = 255 - k;
         let e = 511 - k;
-        out[k] = num::wrapping_add_u16(acc[k], dot(p, &w[s..e]));
+        product[k] = dot(p, &w[s..e]);
         k += 1;
     }
-    out
 }
 
 // x modulo m. Each modulus is a constant here, so that no division is made of a coefficient.
@@ -84,19 +80,19 @@ fn residue(x: u16, m: u16) -> u16
 }
 
 // Each coefficient modulo m.
-pub fn reduce(acc: [u16; 256], m: u16, out: &mut [u16])
-    requires { ⌜ Reduces m (length (now out)) ⌝ }
-    ensures { λ _. ⌜ now (out .exit) ≡ map (λ (x : ℕ). x % m) acc ⌝ }
+pub fn reduce(m: u16, out: &mut [u16])
+    requires { ⌜ isModulus m ≡ true ⌝ }
+    ensures { λ _. ⌜ now (out .exit) ≡ map (λ (x : ℕ). x % m) (now (out .entry)) ⌝ }
 {
     let mut k = 0;
     while k < out.len() {
-        out[k] = residue(acc[k], m);
+        out[k] = residue(out[k], m);
         k += 1;
     }
 }
 
-// The answer of `poly_mul`.
-fn mul_answer(modulus: u32, a: &[u16], b: &[u16], output: usize) -> u8
+// The answer of a ring product.
+pub fn mul_answer(modulus: u32, a: &[u16], b: &[u16], output: usize) -> u8
     ensures { λ r. ⌜ r ≡ earliest (mulQuestions modulus (now (a .entry)) (now (b .entry)) output) ⌝ }
 {
     let q2 = (modulus == 1024) | (modulus == 8192);
@@ -120,6 +116,7 @@ pub fn poly_mul(modulus: u32, a: &[u16], b: &[u16], product: &mut [u16]) -> u8
     if r != 0 {
         return r;
     }
-    reduce(mul_add([0u16; 256], a, b), modulus as u16, product);
+    mul_into(a, b, product);
+    reduce(modulus as u16, product);
     0
 }

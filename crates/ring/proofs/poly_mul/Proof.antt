@@ -1,7 +1,7 @@
 -- `ring::poly_mul` meets its contract: an answer of 0 gives the inner functions what they ask, and any other leaves the output alone.
 use borrow.Author.Needs.{needs}
 use Rattle.questions.specs.Laws.Answers.{wrote-none}
-use Rattle.ring.specs.Laws.Products.{mul-factors, mul-fits, mul-reduces, mul-done}
+use Rattle.ring.specs.Laws.Products.{mul-factors, mul-fits, mul-modulus, mul-done}
 use Rattle.ring.proofs.poly_mul.Statement.{statement}
 use Rattle.ring.proofs.poly_mul.Tie as tie
 
@@ -13,6 +13,6 @@ poly-mul-spec =
     (λ c. search wrote-none)
     (λ c κs. search mul-factors)
     (λ c. search mul-fits)
-    (λ c κs. search mul-reduces)
+    (λ c κs. search mul-modulus)
     (λ c. search needs)
     (λ c. search mul-done))

@@ -10,12 +10,13 @@ use lib.Seq.{take-all}
 use Rattle.lists.specs.Lists.{from}
 use Rattle.lists.specs.Laws.Lists.{length-from, map-from}
 use Rattle.algebra.specs.Integers.{modℤ, sum}
-use Rattle.algebra.specs.Ring.{at, coef, nat, residues}
+use Rattle.algebra.specs.Ring.{at, coef, mul, nat, residues}
 use Rattle.algebra.specs.Columns.{doubled, table, dot}
 use Rattle.algebra.specs.Laws.Sums.{sum-next}
-use Rattle.algebra.specs.Laws.Residues.{mod-of, mod-add, mod-neg, same-refl, same-sym, same-add, same-residue}
+use Rattle.algebra.specs.Laws.Residues.{mod-add, mod-neg}
 use Rattle.algebra.specs.Laws.Reduced.{at-nat, column-coef}
 use Rattle.algebra.specs.Laws.Table.{doubled-low, doubled-high}
+use Rattle.ring.specs.Products.{product}
 
 -- the scalar product, one term more
 pub dot-more :
@@ -60,13 +61,13 @@ module _ (a b w : List ℕ) (k : ℕ) (la : length a ≡ 256) (ew : w ≡ residu
   pub part-length : length (take 256 a) ≡ length (take (511 - k - (255 - k)) (drop (255 - k) w))
   part-length = rw width (simp (length-take, length-drop) (omega (arith, long)))
 
-  -- d is the scalar product, r the sum of it and acc_k
-  pub add-coef :
-      (acc : List ℕ) (d r : ℕ) →
-      d ≡ modℤ (dot (length (take 256 a)) (nat (take 256 a)) (nat (take (511 - k - (255 - k)) (drop (255 - k) w)))) 65536 →
-      r ≡ (getD acc k 0 + d) % 65536 → r ≡ modℤ (at (nat acc) k +ℤ coef 256 (nat a) (nat b) k) 65536
-  add-coef acc d r p q =
-      let m : 0 < 65536 = omega arith in
-      let z = coef 256 (nat a) (nat b) k in
-      let e : d ≡ modℤ z 65536 = (rw (width, start, ew, take-all 256 a (omega arith), la) at p) ∙ column-coef 65536 m 256 (nat a) (nat b) k hk in
-      q ∙ rw (e, at-nat acc k) (mod-of 65536 m (same-add (same-refl (pos (getD acc k 0))) (same-sym (same-residue 65536 m z))))
+  -- d is the scalar product
+  pub column :
+      {d : ℕ} → d ≡ modℤ (dot (length (take 256 a)) (nat (take 256 a)) (nat (take (511 - k - (255 - k)) (drop (255 - k) w)))) 65536 →
+      d ≡ modℤ (coef 256 (nat a) (nat b) k) 65536
+  column p =
+      (rw (width, start, ew, take-all 256 a (omega arith), la) at p) ∙ column-coef 65536 (omega arith) 256 (nat a) (nat b) k hk
+
+pub coefficients : (a b : List ℕ) → from 256 (λ k. modℤ (coef 256 (nat a) (nat b) k) 65536) ≡ product 65536 a b
+unfolding product mul
+coefficients a b = sym (map-from (λ z. modℤ z 65536) 256 (coef 256 (nat a) (nat b)))

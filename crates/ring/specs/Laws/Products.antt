@@ -1,5 +1,5 @@
--- Laws of the ring product's call: the sums gathered modulo 65536, and what an answer of 0 gives.
-use Prim.Native.Nat.{ℕ, zero, suc, _%_}
+-- Laws of the ring product's call: what is made modulo 65536 and then reduced, and what an answer of 0 gives.
+use Prim.Native.Nat.{ℕ, _%_}
 use mathlib.Core.Bool.{true}
 use mathlib.Core.List.{List, map}
 use mathlib.Core.Logic.{_⊎_, inl, inr, ⊎-elim}
@@ -8,31 +8,17 @@ use native.Mathlib.Omega.{arith}
 use mir.Syntax.{w16}
 use mir.Val.{Fits}
 use lib.Dec.{eqb}
-use lib.IntN.{ℤ, pos, _+ℤ_, +ℤ-idl}
-use lib.ListN.{length, replicate}
+use lib.IntN.{ℤ}
+use lib.ListN.{length}
 use borrow.Author.Tests.{eqb-true}
-use Rattle.lists.specs.Lists.{from}
 use Rattle.lists.specs.Laws.Booleans.{or-cases}
-use Rattle.lists.specs.Laws.Lists.{map-from}
 use Rattle.questions.specs.Answers.{earliest}
 use Rattle.questions.specs.Laws.Answers.{all-yes, wrote}
-use Rattle.algebra.specs.Integers.{modℤ}
-use Rattle.algebra.specs.Ring.{at, coef, mul, nat, residues}
+use Rattle.algebra.specs.Ring.{mul, nat, residues}
 use Rattle.algebra.specs.Laws.Reduced.{residues-part}
 use Rattle.ring.specs.Products.{product, isModulus, mulQuestions}
 use Rattle.ring.specs.Promises.{Multiplied}
-use Rattle.ring.specs.Rooms.{Factors, Reduces}
-
--- a product added to zeros
-zeros : (n k : ℕ) → at (nat (replicate n 0)) k ≡ pos 0
-zeros zero k = refl
-zeros (suc n) zero = refl
-zeros (suc n) (suc k) = zeros n k
-
-added-none :
-    (n m : ℕ) (a b : List ℤ) → from n (λ k. modℤ (at (nat (replicate n 0)) k +ℤ coef n a b k) m) ≡ residues m (mul n a b)
-unfolding mul
-added-none n m a b = simp (zeros n, +ℤ-idl, map-from)
+use Rattle.ring.specs.Rooms.{Factors}
 
 pub moduli : (m : ℕ) → isModulus m ≡ true → (m ≡ 1024) ⊎ (m ≡ 8192)
 moduli m h = ⊎-elim (λ p. inl (eqb-true m 1024 p)) (λ p. inr (eqb-true m 8192 p)) (or-cases (eqb m 1024) (eqb m 8192) h)
@@ -47,21 +33,17 @@ reduced m z h p q =
 
 -- an answer of 0 gives the inner functions what they ask, and with the work done it is what the call promises
 module _ (m : ℕ) (a b out : List ℕ) {r : ℕ} (e : r ≡ earliest (mulQuestions m a b (length out))) (z : r ≡ 0) where
-  pub mul-factors : Factors (length a) (length b)
+  pub mul-modulus : isModulus m ≡ true
+  mul-modulus = all-yes (mulQuestions m a b (length out)) refl e z .0
+
+  pub mul-factors : Factors (length a) (length b) (length out)
   mul-factors =
       let y = all-yes (mulQuestions m a b (length out)) refl e z in
-      record { first = eqb-true _ _ (y .1 .0); second = eqb-true _ _ (y .1 .1 .0) }
-
-  pub mul-reduces : Reduces m (length out)
-  mul-reduces =
-      let y = all-yes (mulQuestions m a b (length out)) refl e z in
-      record { modulus = y .0; room = eqb-true _ _ (y .1 .1 .1 .1 .1 .0) }
+      record { first = eqb-true _ _ (y .1 .0); second = eqb-true _ _ (y .1 .1 .0); room = eqb-true _ _ (y .1 .1 .1 .1 .1 .0) }
 
   pub mul-fits : Fits w16 m
-  mul-fits = ⊎-elim (λ h. omega arith) (λ h. omega arith) (moduli m (mul-reduces .modulus))
+  mul-fits = ⊎-elim (λ h. omega arith) (λ h. omega arith) (moduli m mul-modulus)
 
-  pub mul-done :
-      {acc new : List ℕ} → acc ≡ from 256 (λ k. modℤ (at (nat (replicate 256 0)) k +ℤ coef 256 (nat a) (nat b) k) 65536) →
-      new ≡ map (λ x. x % m) acc → Multiplied m a b out 0 new
+  pub mul-done : {acc new : List ℕ} → acc ≡ product 65536 a b → new ≡ map (λ x. x % m) acc → Multiplied m a b out 0 new
   unfolding product
-  mul-done p q = wrote e z (reduced m (mul 256 (nat a) (nat b)) (mul-reduces .modulus) (p ∙ added-none 256 65536 (nat a) (nat b)) q)
+  mul-done p q = wrote e z (reduced m (mul 256 (nat a) (nat b)) mul-modulus p q)

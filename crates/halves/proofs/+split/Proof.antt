@@ -1,0 +1,98 @@
+-- `halves::split` meets its contract, by one argument over the number of lines, which falls at each call.
+use Prim.Native.Nat.{ℕ, _<_, _/_}
+use mathlib.Core.Path.{refl, _∙_}
+use native.Mathlib.Omega.{arith}
+use borrow.Fn.Kinds.{In}
+use borrow.Fn.PlainCycle.{Measures, is, falls, and}
+use Rattle.halves.specs.Laws.Level.{blank-high, blank-mid, blank-low, level}
+use Rattle.halves.specs.Laws.Rooms.{Half, half, plain-room, plain-halved, least, fields, blank-both, room-left}
+use Rattle.halves.specs.Laws.Rooms.{room-high, room-mid, room-low, sum-room, join-room}
+use Rattle.halves.proofs.split.Reads as split
+use Rattle.halves.proofs.split.Kinds as split-kinds
+use Rattle.halves.proofs.+split.Lts-split as split-lts
+use Rattle.halves.proofs.add.Reads as add-reads
+use Rattle.halves.proofs.join.Reads as join-reads
+use Rattle.lines.proofs.plain.Reads as plain-reads
+use Rattle.halves.proofs.+split.{statement}
+use Rattle.halves.proofs.+split.Tie.{close}
+
+abbrev μ-split : Measures 1 split-kinds.ps ℕ
+μ-split κs a = a .1 .0
+
+abbrev split-at : ℕ → In 1 split-kinds.ps
+split-at t = and 1 split-kinds.ps (is 1 split-kinds.ps μ-split t) split.Pre
+
+abbrev split-below : ℕ → In 1 split-kinds.ps
+split-below t = and 1 split-kinds.ps (falls 1 split-kinds.ps _<_ μ-split t) split.Pre
+
+-- with more than one line
+halved :
+    (t : ℕ)
+    (o : split-lts.Else1 (plain-reads.Asked, plain-reads.Learnt, add-reads.Asked, add-reads.Learnt, split-below t, split.Post, join-reads.Asked, join-reads.Learnt) (split-at t) split.Post) →
+    Half (o .before .before .args .lines) (o .before .before .args .lines / 2)
+halved t o = let r = o .before .before .pre .1 in half (o .before .before .args .lines) (r .depth) (r .sized) (o .if1 .left)
+
+pub +split-spec : {M : Type 1} → statement M
++split-spec = close μ-split λ t. split-lts.spec
+    (plain-reads.Asked, plain-reads.Learnt, add-reads.Asked, add-reads.Learnt, split-below t, split.Post, join-reads.Asked, join-reads.Learnt)
+    (split-at t)
+    split.Post
+    (λ c κs. plain-room (c .before .before .before .pre .1) (c .before .if1 .taken))
+    (λ c. c .before .before .plain .ensures .size)
+    (λ c. plain-halved (c .before .before .before .before .before .before .pre .1) (c .before .before .before .before .if1 .taken) (c .before .before .plain .ensures))
+    (λ c. let r = c .before .before .pre .1 in omega (arith, r .most, room-left r (halved t c) refl))
+    (λ c. let r = c .before .before .pre .1 in omega (arith, r .most, room-left r (halved t c) refl))
+    (λ c. let r = c .before .before .pre .1 in omega (arith, r .most, room-left r (halved t c) refl))
+    (λ c. let r = c .before .before .pre .1 in omega (arith, r .most, room-left r (halved t c) refl))
+    (λ c. let r = c .before .before .pre .1 in omega (arith, r .most, room-left r (halved t c) refl))
+    (λ c. let r = c .before .before .pre .1 in omega (arith, r .most, room-left r (halved t c) refl))
+    (λ c. let r = c .before .before .pre .1 in omega (arith, r .most, room-left r (halved t c) refl))
+    (λ c. let r = c .before .before .pre .1 in omega (arith, r .most, room-left r (halved t c) refl))
+    (λ c. let o = c .before in let r = o .before .before .pre .1 in omega (arith, room-left r (halved t o) refl, fields r (halved t o)))
+    (λ c κs. sum-room (c .before .before .before .pre .1) (halved t (c .before)) refl)
+    (λ c. let o = c .before .before .before .before .before in let r = o .before .before .pre .1 in omega (arith, room-left r (halved t o) refl, fields r (halved t o)))
+    (λ c. let o = c .before .before .before .before .before in let r = o .before .before .pre .1 in omega (arith, room-left r (halved t o) refl, fields r (halved t o)))
+    (λ c. let o = c .before .before .before .before .before in let r = o .before .before .pre .1 in omega (arith, room-left r (halved t o) refl, fields r (halved t o)))
+    (λ c κs.
+    let o = c .before .before .before .before .before in
+    let s = o .before .before in
+    let r = s .pre .1 in
+    let x = halved t o in (
+      omega (arith, s .pre .0, x .even, least r x),
+      room-high r x (c .before .before .before .add .ensures .size) (blank-high (s .args .rows) (s .args .lines / 2) _ _ (s .args .a) (s .args .out) (s .args .free) _ refl refl (fields r x) (blank-both r x)
+          (c .before .before .before .add .ensures)),
+    ))
+    (λ c κs.
+    let o = c .before .before .before .before .before .before .before .before .before in
+    let s = o .before .before in
+    let r = s .pre .1 in
+    let x = halved t o in (
+      omega (arith, s .pre .0, x .even, least r x),
+      room-mid r x (c .before .before .before .split .ensures .size ∙ c .before .before .before .before .before .before .before .add .ensures .size)
+          (blank-mid (s .args .rows) (s .args .lines / 2) _ _ (s .args .a) (s .args .out) (s .args .free) _ refl refl (fields r x) (blank-both r x)
+          (c .before .before .before .before .before .before .before .add .ensures) (c .before .before .before .split .ensures)),
+    ))
+    (λ c κs.
+    let o = c .before .before .before .before .before .before .before .before .before .before .before .before .before in
+    let s = o .before .before in
+    let r = s .pre .1 in
+    let x = halved t o in (
+      omega (arith, s .pre .0, x .even, least r x),
+      room-low r x (c .before .before .before .split2 .ensures .size ∙ c .before .before .before .before .before .before .before .split .ensures .size ∙ c .before .before .before .before .before .before .before .before .before .before .before .add .ensures .size)
+          (blank-low (s .args .rows) (s .args .lines / 2) _ _ (s .args .a) (s .args .out) (s .args .free) _ refl refl (fields r x) (blank-both r x)
+          (c .before .before .before .before .before .before .before .before .before .before .before .add .ensures) (c .before .before .before .before .before .before .before .split .ensures) (c .before .before .before .split2 .ensures)),
+    ))
+    (λ c κs.
+    let o = c .before .before .before .before .before .before .before .before .before .before .before .before .before .before .before .before .before in
+    let s = o .before .before in
+    let r = s .pre .1 in
+    let x = halved t o in
+    join-room r x (c .before .before .before .split3 .ensures .size ∙ c .before .before .before .before .before .before .before .split2 .ensures .size ∙ c .before .before .before .before .before .before .before .before .before .before .before .split .ensures .size ∙ c .before .before .before .before .before .before .before .before .before .before .before .before .before .before .before .add .ensures .size))
+    (λ c. c .before .before .join .ensures .size ∙ c .before .before .before .before .before .before .split3 .ensures .size ∙ c .before .before .before .before .before .before .before .before .before .before .split2 .ensures .size ∙ c .before .before .before .before .before .before .before .before .before .before .before .before .before .before .split .ensures .size ∙ c .before .before .before .before .before .before .before .before .before .before .before .before .before .before .before .before .before .before .add .ensures .size)
+    (λ c.
+    let o = c .before .before .before .before .before .before .before .before .before .before .before .before .before .before .before .before .before .before .before .before in
+    let s = o .before .before in
+    let r = s .pre .1 in
+    let x = halved t o in
+    rw (← x .even) at (level (s .args .rows) (s .args .lines / 2) _ _ (s .args .a) (s .args .out) (s .args .free) _ refl refl (fields r x) (blank-both r x)
+    (c .before .before .before .before .before .before .before .before .before .before .before .before .before .before .before .before .before .before .add .ensures) (c .before .before .before .before .before .before .before .before .before .before .before .before .before .before .split .ensures) (c .before .before .before .before .before .before .before .before .before .before .split2 .ensures) (c .before .before .before .before .before .before .split3 .ensures) (c .before .before .join .ensures)))

@@ -1,0 +1,42 @@
+-- `halves::add` meets its contract: 24 places a turn.
+use Prim.Native.Nat.{ℕ, _≤_, _+_, _-_, _%_}
+use mathlib.Core.Path.{_≡_}
+use native.Mathlib.Omega.{arith}
+use borrow.Author.Needs.{needs}
+use lib.ListN.{getD}
+use Rattle.lines.specs.Rooms.{Put}
+use Rattle.lines.specs.Laws.Put.{put-none, put-to}
+use Rattle.halves.specs.Laws.Sums.{sums-next}
+use Rattle.halves.proofs.add.Statement.{statement}
+use Rattle.halves.proofs.add.Tie as tie
+
+abbrev Inv-loop : tie.InvT-loop
+Inv-loop work₀ x y at m i₀ work i = ((i ≤ m) × (i % 24 ≡ 0)) × Put at i (λ (k : ℕ). (getD work₀ (x + k) 0 + getD work₀ (y + k) 0) % 65536) work₀ work
+
+abbrev μ-loop : tie.MeasureT-loop
+μ-loop work₀ x y at m i₀ work i = m - i
+
+loop-again : tie.Need-loop-again Inv-loop μ-loop
+loop-again c =
+    let d = c .before .before .before .before .before .before .before .before in
+    let x = d .before .before .args in
+    (omega (arith, d .before .before .pre .whole), sums-next (x .x) (x .y) (omega (arith, d .before .before .pre)) (omega (arith, d .before .before .pre)) (d .loop .inv .1) (c .before .before .before .before .before .sum .ensures) (c .before .before .put .ensures))
+
+pub add-spec : {M : Type 1} → statement M
+add-spec =
+    tie.close
+    (tie.spec
+    Inv-loop
+    μ-loop
+    (λ c. (omega arith, put-none))
+    (λ c. omega arith)
+    (λ c. omega arith)
+    (λ c κs. search needs)
+    (λ c. omega arith)
+    (λ c. omega arith)
+    (λ c κs. search needs)
+    (λ c. omega arith)
+    (λ c. omega arith)
+    loop-again
+    (λ c. omega arith)
+    (λ c. put-to (omega arith) (c .before .loop .inv .1)))

@@ -1,0 +1,50 @@
+-- `karatsuba::fold_row` meets its contract: sixteen places a turn.
+use Prim.Native.Nat.{_≤_, _*_, _-_}
+use mathlib.Core.Path.{_≡_, _∙_, ap}
+use native.Mathlib.Nat.{mul-le-mul-left}
+use native.Mathlib.Omega.{arith}
+use lib.ListN.{length}
+use Rattle.lists.specs.Laws.Lists.{length-from}
+use Rattle.karatsuba.specs.Rooms.{foldRow}
+use Rattle.lines.specs.Rooms.{Put}
+use Rattle.lines.specs.Laws.Put.{put-none, put-to, put-all}
+use Rattle.karatsuba.specs.Laws.Fold.{fold-next}
+use Rattle.karatsuba.proofs.fold_row.Statement.{statement}
+use Rattle.karatsuba.proofs.fold_row.Tie as tie
+
+abbrev Inv-loop : tie.InvT-loop
+Inv-loop work x s out₀ g₀ out g = (g ≤ 16) × Put 0 (16 * g) (foldRow work x s out₀) out₀ out
+
+abbrev μ-loop : tie.MeasureT-loop
+μ-loop work x s out₀ g₀ out g = 16 - g
+
+-- line g of the product, and line g + 16
+line : (c : tie.In-loop Inv-loop μ-loop) → let x = c .before .before .before .before .args in x .s * c .before .loop .g ≤ x .s * 15
+line c = mul-le-mul-left (c .before .before .before .before .args .s) (let h : c .before .loop .g ≤ 15 = omega arith in h)
+
+pub fold-row-spec : {M : Type 1} → statement M
+fold-row-spec =
+    tie.close
+    (tie.spec
+    Inv-loop
+    μ-loop
+    (λ c. (omega arith, put-none))
+    (λ c. omega (arith, line c))
+    (λ c. omega (arith, line c))
+    (λ c. omega (arith, line c))
+    (λ c. omega (arith, line c))
+    (λ c. omega arith)
+    (λ c κs.
+    let p = c .before .before .before .before .before .pre in
+    let l = c .before .before .loop .inv .1 .size in
+    record { first = omega (arith, line (c .before), p .0); second = omega (arith, line (c .before), p .0); third = omega (arith, l, p .1) })
+    (λ c. omega arith)
+    (λ c. omega arith)
+    (λ c κs. omega (arith, ap length (c .before .before .folded .ensures) ∙ length-from 16 _, c .before .before .before .before .before .loop .inv .1 .size, c .before .before .before .before .before .before .before .before .pre .1))
+    (λ c. omega arith)
+    (λ c. omega arith)
+    (λ c. let x = c .before .before .before .before .before .before .before .before .before .before .before .args in (omega arith, fold-next (x .work .now) (x .x) (x .s) (c .before .before .before .before .before .before .before .before .loop .g) (c .before .before .before .before .before .before .before .before .loop .inv .1) (c .before .before .before .before .before .folded .ensures) (c .before .before .put .ensures)))
+    (λ c. omega arith)
+    (λ c.
+    let e : 16 * c .before .loop .g ≡ 256 = omega arith in
+    put-all (c .before .before .before .before .pre .1) (put-to e (c .before .loop .inv .1))))

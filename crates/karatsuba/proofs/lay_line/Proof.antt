@@ -1,0 +1,64 @@
+-- `karatsuba::lay_line` meets its contract: one row a turn, and then b.
+use Prim.Native.Nat.{ℕ, _≤_, _+_, _*_, _-_}
+use mathlib.Core.List.{List}
+use mathlib.Core.Path.{_≡_, sym, ap}
+use native.Mathlib.Omega.{arith}
+use lib.ListN.{length, getD}
+use Rattle.karatsuba.specs.Rooms.{LaidLine, source}
+use Rattle.karatsuba.specs.Laws.Lay.{laid-none, laid-more, row-line, source-last}
+use Rattle.karatsuba.proofs.lay_line.Statement.{statement}
+use Rattle.karatsuba.proofs.lay_line.Tie as tie
+
+abbrev Inv-loop : tie.InvT-loop
+Inv-loop rows a start step b g work₀ at i₀ work i = (i ≤ rows) × LaidLine (source rows a start step b) g i at work₀ work
+
+abbrev μ-loop : tie.MeasureT-loop
+μ-loop rows a start step b g work₀ at i₀ work i = rows - i
+
+-- row i stands in a
+within :
+    (c : tie.In-loop Inv-loop μ-loop) →
+    let x = c .before .before .before .before .before .args in
+    256 * (x .start + x .step * c .before .loop .i) + 256 ≤ length (x .a .now)
+within c = c .before .before .before .before .before .pre .factors (c .before .loop .i) (c .loop-test .taken)
+
+pub lay-line-spec : {M : Type 1} → statement M
+lay-line-spec =
+    tie.close
+    (tie.spec
+    Inv-loop
+    μ-loop
+    (λ c. (omega arith, laid-none))
+    (λ c. omega (arith, within c))
+    (λ c. omega (arith, within c))
+    (λ c. omega (arith, within c))
+    (λ c. omega arith)
+    (λ c. omega (arith, within c))
+    (λ c κs. omega (arith, within c, c .before .before .before .before .before .pre .lines))
+    (λ c. omega arith)
+    (λ c. omega arith)
+    (λ c. omega arith)
+    (λ c κs. omega (arith, c .before .before .line .ensures .size, c .before .before .before .before .loop .inv .1 .size, c .before .before .before .loop-test .taken, c .before .before .before .before .before .before .before .before .pre .left))
+    (λ c. omega arith)
+    (λ c. omega arith)
+    (λ c.
+    let d = c .before .before .before .before .before .before .before in
+    let s = d .before .before .before .before in
+    let x = s .args in (
+      omega arith,
+      laid-more (d .loop .inv .1) (c .before .before .before .before .before .line .ensures) (c .before .before .put .ensures)
+          (λ t h. row-line (x .rows) (x .a .now) (x .start) (x .step) (x .b .now) (d .loop .i) (x .g) t (c .before .before .before .before .before .before .loop-test .taken) (s .pre .lines) h),
+    ))
+    (λ c. omega arith)
+    (λ c κs. omega (arith, c .before .before .before .before .before .pre))
+    (λ c. omega arith)
+    (λ c. omega arith)
+    (λ c. omega arith)
+    (λ c κs. omega (arith, c .before .before .line2 .ensures .size, c .before .before .before .before .loop .inv .1 .size, c .before .before .before .before .before .before .before .before .pre .left))
+    (λ c. omega arith)
+    (λ c.
+    let d = c .before .before .before .before .before .before .before in
+    let x = d .before .before .before .before .args in
+    let e : d .loop .i ≡ x .rows = omega arith in
+    laid-more (rw e at (d .loop .inv .1)) (c .before .before .before .before .before .line2 .ensures) (c .before .before .put2 .ensures)
+    (λ t h. ap (λ (l : List ℕ). getD l (16 * x .g + t) 0) (sym (source-last (x .rows) (x .a .now) (x .start) (x .step) (x .b .now))))))

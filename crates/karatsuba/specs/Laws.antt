@@ -1,0 +1,4 @@
+pub mod Lay
+pub mod Fold
+pub mod Product
+pub mod Single

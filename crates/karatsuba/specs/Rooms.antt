@@ -1,0 +1,71 @@
+-- What the functions ask of lengths, and what they leave.
+use Prim.Native.Nat.{ℕ, _+_, _*_, _<_, _≤_}
+use mathlib.Core.Bool.{cond}
+use mathlib.Core.List.{List}
+use mathlib.Core.Path.{_≡_}
+use lib.Dec.{ltb}
+use lib.IntN.{_+ℤ_, _-ℤ_}
+use lib.ListN.{length, getD}
+use Rattle.algebra.specs.Integers.{modℤ}
+use Rattle.algebra.specs.Ring.{poly}
+use Rattle.lines.specs.Rooms.{reads, place}
+
+-- ---- what is asked
+-- what `lay` asks: the rows in a, the factor b, and places for all of them
+pub record LayRoom (rows a start step b work : ℕ) : Type 0 where
+  pub factors : (i : ℕ) → i < rows → 256 * (start + step * i) + 256 ≤ a
+  pub factor : b ≡ 256
+  pub left : 384 * (rows + 1) ≤ work
+
+-- what `lay_line` asks: the same, and line g to end at `end`
+pub record LineRoom (rows a start step b g end work : ℕ) : Type 0 where
+  pub factors : (i : ℕ) → i < rows → 256 * (start + step * i) + 256 ≤ a
+  pub factor : b ≡ 256
+  pub lines : g < 16
+  pub left : end ≤ work
+
+-- what `folded` asks: sixteen places of each
+pub record FoldedRoom (x y work o old : ℕ) : Type 0 where
+  pub first : x + 16 ≤ work
+  pub second : y + 16 ≤ work
+  pub third : o + 16 ≤ old
+
+-- what `rows_add` asks: at most four rows, each in a; one factor; places to work in; a polynomial of out for each row
+pub record RowsRoom (rows a start step b work out : ℕ) : Type 0 where
+  pub most : rows ≤ 4
+  pub factors : (i : ℕ) → i < rows → 256 * (start + step * i) + 256 ≤ a
+  pub factor : b ≡ 256
+  pub space : 1256 * rows + 864 ≤ work
+  pub room : out ≡ 256 * rows
+
+-- ---- what is left
+-- the operand laid as row i: a polynomial of a, or behind the rows b
+unfoldable pub source : (rows : ℕ) → List ℕ → (start step : ℕ) → List ℕ → ℕ → List ℕ
+source rows a start step b i = cond (ltb i rows) (poly a (start + step * i)) b
+
+-- n of sixteen coefficients of f from s on, behind 8 zeros
+pub record Line (f : List ℕ) (s n : ℕ) (r : List ℕ) : Type 0 where
+  pub size : length r ≡ 24
+  pub zero : (t : ℕ) → t < 8 → getD r t 0 ≡ 0
+  pub value : (t : ℕ) → t < n → getD r (t + 8) 0 ≡ getD f (s + t) 0
+
+-- line g of the first n operands f, at `at`
+pub record LaidLine (f : ℕ → List ℕ) (g n at : ℕ) (w w′ : List ℕ) : Type 0 where
+  pub size : length w′ ≡ length w
+  pub zero : (i t : ℕ) → i < n → t < 8 → getD w′ (at + 24 * i + t) 0 ≡ 0
+  pub value : (i t : ℕ) → i < n → t < 16 → getD w′ (at + 24 * i + 8 + t) 0 ≡ getD (f i) (16 * g + t) 0
+  pub below : (p : ℕ) → p < at → getD w′ p 0 ≡ getD w p 0
+
+-- the first n lines of the operands f, from the front
+pub record Laid (rows : ℕ) (f : ℕ → List ℕ) (n : ℕ) (w w′ : List ℕ) : Type 0 where
+  pub size : length w′ ≡ length w
+  pub zero : (g i t : ℕ) → g < n → i ≤ rows → t < 8 → getD w′ (24 * ((rows + 1) * g) + 24 * i + t) 0 ≡ 0
+  pub value : (g i t : ℕ) → g < n → i ≤ rows → t < 16 → getD w′ (24 * ((rows + 1) * g) + 24 * i + 8 + t) 0 ≡ getD (f i) (16 * g + t) 0
+
+-- old + x - y at place k, modulo 65536
+abbrev pub foldAt : List ℕ → (x y : ℕ) → List ℕ → (o : ℕ) → ℕ → ℕ
+foldAt w x y old o k = modℤ (reads old (o + k) +ℤ (reads w (x + k) -ℤ reads w (y + k))) 65536
+
+-- old + the product at x, with X^256 = -1
+abbrev pub foldRow : List ℕ → (x s : ℕ) → List ℕ → ℕ → ℕ
+foldRow w x s old k = modℤ (reads old k +ℤ (reads w (x + place s k) -ℤ reads w (x + place s (256 + k)))) 65536
