@@ -6,10 +6,8 @@ use Rattle.sets.specs.Rooms.{Row}
 use Rattle.answers.specs.Rooms.{EncryptRoom, DecryptRoom}
 
 -- the reconciliation data of a message, and back
-pub record DataRoom (p : Params) (vector secret message out : ℕ) : Type 0 where
+pub record DataRoom (p : Params) (message out : ℕ) : Type 0 where
   pub row : Row p
-  pub vectorLong : vector ≡ 320 * p .l
-  pub secretLong : secret ≡ 256 * p .l
   pub messageLong : message ≡ 32
   pub outLong : out ≡ 32 * p .bits
 

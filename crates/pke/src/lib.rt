@@ -2,28 +2,25 @@
 ghost use mathlib.Core.Path.{_≡_};
 ghost use lib.ListN.{length};
 ghost use Rattle.sets.specs.Sets.{added};
-ghost use Rattle.algebra.specs.Ring.{nat};
 ghost use Rattle.packing.specs.Packing.{packed, unpacked};
-ghost use Rattle.reconciliation.specs.Reconciliation.{recovered};
-ghost use Rattle.pke.specs.Pke.{dataPoly, encrypted, decrypted};
+ghost use Rattle.reconciliation.specs.Reconciliation.{maskedPoly, reconData, recovered};
+ghost use Rattle.pke.specs.Pke.{encrypted, decrypted};
 ghost use Rattle.pke.specs.Promises.{Encrypted, Decrypted};
 ghost use Rattle.pke.specs.Rooms.{DataRoom, MessageRoom, EncryptSpace, DecryptSpace};
 use sets::Params;
 use sets::set_params;
 
-// The reconciliation data of a message, from the packed vector b and the secret.
-fn data_into(p: Params, vector: &[u8], secret: &[u16], message: &[u8], out: &mut [u8])
-    requires { ⌜ DataRoom p (length (now vector)) (length (now secret)) (length (now message)) (length (now out)) ⌝ }
+// The reconciliation data of a message, from v'.
+fn data_into(p: Params, v: &[u16; 256], message: &[u8], out: &mut [u8])
+    requires { ⌜ DataRoom p (length (now message)) (length (now out)) ⌝ }
     ensures { λ _. ⌜ now (out .exit)
-        ≡ packed (p .bits) (dataPoly p (unpacked 10 (now (vector .entry))) (nat (now (secret .entry))) (now (message .entry))) ⌝ }
+        ≡ packed (p .bits) (reconData (p .g) (maskedPoly (now (v .entry)) (unpacked 1 (now (message .entry))))) ⌝ }
 {
-    let mut v = [0u16; 256];
     let mut bits = [0u16; 256];
     let mut w = [0u16; 256];
     let mut data = [0u16; 256];
-    exchange::inner_into(p.l, vector, secret, &mut v);
     packing::unpack_into(1, message, &mut bits);
-    reconciliation::mask_into(&v, &bits, &mut w);
+    reconciliation::mask_into(v, &bits, &mut w);
     reconciliation::recon_into(p.g, &w, &mut data);
     packing::pack_into(p.bits, &data, out);
 }
@@ -56,21 +53,17 @@ pub fn encrypt_with(
     let e = 320 * p.l;
     let key = p.pk;
     let end = p.ct;
+    let mut v = [0u16; 256];
     sampling::secret_into(p.l, p.mu, seed, secret);
-    exchange::vector_into(
-        false,
+    exchange::both_into(
         p.l,
         &public_key[e..key],
-        secret,
-        &mut ciphertext[0..e],
-    );
-    data_into(
-        p,
         &public_key[0..e],
         secret,
-        message,
-        &mut ciphertext[e..end],
+        &mut ciphertext[0..e],
+        &mut v,
     );
+    data_into(p, &v, message, &mut ciphertext[e..end]);
 }
 
 // Decrypts at arguments of the set's lengths; the caller lends the place for the secret.

@@ -2,18 +2,26 @@
 use Prim.Native.Nat.{ℕ, _+_, _*_, _<_, _≤_}
 use mathlib.Core.Path.{_≡_}
 
--- what `inner` asks: in a the polynomials at the places start + step j, in s the first l
-pub record StridedRoom (l a start step s : ℕ) : Type 0 where
-  pub first : (j : ℕ) → j < l → 256 * (start + step * j) + 256 ≤ a
-  pub second : s ≡ 256 * l
+-- what `sums_into` asks: up to four rows, and one at least where there is a product; the polynomials of each row in a, those of s; places to work
+-- in and for the sums
+pub record SumsRoom (rows l a start row column s work out : ℕ) : Type 0 where
+  pub some : 1 ≤ l → 1 ≤ rows
+  pub most : rows ≤ 4
+  pub factors : (i j : ℕ) → i < rows → j < l → 256 * (start + column * j + row * i) + 256 ≤ a
+  pub vector : s ≡ 256 * l
+  pub space : 1256 * rows + 864 ≤ work
+  pub room : out ≡ 256 * rows
 
--- what `inner_into` asks: two vectors
-pub record InnerRoom (l a s : ℕ) : Type 0 where
+-- what `inner_into` asks: two vectors and places to work in
+pub record InnerRoom (l a s work : ℕ) : Type 0 where
   pub first : a ≡ 256 * l
   pub second : s ≡ 256 * l
+  pub space : 2120 ≤ work
 
--- what `matrix_into` asks: a matrix, a vector and a place for the product
-pub record MatrixRoom (l A s out : ℕ) : Type 0 where
+-- what `matrix_into` asks: a matrix of up to four rows, a vector, and places to work in at three rows and for the product
+pub record MatrixRoom (l A s work out : ℕ) : Type 0 where
+  pub most : l ≤ 4
   pub matrix : A ≡ 256 * (l * l)
   pub vector : s ≡ 256 * l
+  pub space : 4632 ≤ work
   pub room : out ≡ 256 * l

@@ -4,4 +4,5 @@ use Rattle.exchange.proofs.inner_with.Statement.{statement}
 use Rattle.exchange.proofs.inner_with.Tie as tie
 
 pub inner-with-spec : {M : Type 1} → statement M
-inner-with-spec = tie.close (tie.spec (λ c κs. search needs) (λ c κs. search needs) (λ c. search needs) (λ c. cc))
+inner-with-spec =
+    tie.close (tie.spec (λ c κs. search needs) (λ c κs. search needs) (λ c. search needs) (λ c. search needs) (λ c. cc))

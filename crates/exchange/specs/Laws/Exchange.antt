@@ -1,10 +1,13 @@
--- Laws of the exchanged vectors: the steps that make one, its length and its bound, and what counts of the secret.
-use Prim.Native.Nat.{ℕ, _*_}
+-- Laws of the exchanged vectors: what counts of the secret, the length and the bound of one, and the steps that make it.
+use Prim.Native.Nat.{ℕ, _*_, _-_}
 use mathlib.Core.Bool.{Bool}
 use mathlib.Core.List.{List, map}
-use mathlib.Core.Path.{_≡_, _∙_}
+use mathlib.Core.Path.{_≡_, _∙_, ap}
+use native.Mathlib.Omega.{arith}
 use lib.IntN.{ℤ}
-use lib.ListN.{length, length-map}
+use lib.ListN.{length, take, drop, length-map}
+use lib.Seq.{take-at}
+use borrow.Rule.Slice.PartMut.{putMid}
 use Rattle.lists.specs.Numbers.{Below}
 use Rattle.questions.specs.Laws.Bounds.{all-below-at}
 use Rattle.algebra.specs.Ring.{nat, residues}
@@ -15,12 +18,6 @@ use Rattle.vectors.specs.Vectors.{side, matrixVector}
 use Rattle.vectors.specs.Laws.Vectors.{matrix-secret, length-matrixVector}
 use Rattle.sampling.specs.Sampling.{matrix}
 use Rattle.exchange.specs.Exchange.{roundedVector}
-
-pub vector-steps :
-    (t : Bool) (l : ℕ) (seed : List ℕ) (s : List ℤ) {A x r out : List ℕ} → A ≡ matrix l seed →
-    x ≡ matrixVector l (side t l A) s → r ≡ map round x → out ≡ packed 10 r → out ≡ packed 10 (roundedVector t l seed s)
-unfolding roundedVector
-vector-steps t l seed s a x r o = rw (o, r, x, a)
 
 module _ (t : Bool) (l : ℕ) (seed : List ℕ) (s : List ℤ) where
   -- a secret given by its residues
@@ -35,3 +32,12 @@ module _ (t : Bool) (l : ℕ) (seed : List ℕ) (s : List ℤ) where
   pub vector-below : Below 1024 (roundedVector t l seed s)
   unfolding roundedVector
   vector-below = all-below-at 1024 _ (round-below (matrixVector l (side t l (matrix l seed)) s))
+
+  -- the steps that make it: rounded to the front of a list w, and packed from there
+  pub vector-steps :
+      (w : List ℕ) {A x r out : List ℕ} → A ≡ matrix l seed → x ≡ matrixVector l (side t l A) s → r ≡ map round x →
+      out ≡ packed 10 (take (256 * l - 0) (drop 0 (putMid 0 (256 * l - 0) w r))) → out ≡ packed 10 (roundedVector t l seed s)
+  unfolding roundedVector
+  vector-steps w {r = r} a x p o =
+      let q : r ≡ roundedVector t l seed s = rw (p, x, a) in
+      o ∙ ap (packed 10) (take-at r _ (256 * l - 0) (ap length q ∙ length-vector ∙ omega arith) ∙ q)

@@ -5,7 +5,6 @@ use borrow.Author.Needs.{needs}
 use lib.ListN.{length}
 use Rattle.packing.specs.Laws.Packing.{polynomials-fill}
 use Rattle.reconciliation.specs.Laws.Reconciliation.{length-masked}
-use Rattle.pke.specs.Laws.Pke.{data-steps}
 use Rattle.pke.proofs.data_into.Statement.{statement}
 use Rattle.pke.proofs.data_into.Tie as tie
 
@@ -16,7 +15,6 @@ pub data-into-spec : {M : Type 1} → statement M
 data-into-spec =
     tie.close
     (tie.spec
-    (λ c κs. search needs)
     (λ c. search needs)
     (λ c κs. search needs)
     (λ c κs. search needs)
@@ -26,4 +24,4 @@ data-into-spec =
     (λ c. search needs)
     (λ c κs. polynomials-fill _ 1 _ _ (search needs) (omega arith) (omega arith) (omega arith))
     (λ c. search needs)
-    (λ c. search data-steps))
+    (λ c. cc))

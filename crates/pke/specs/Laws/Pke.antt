@@ -3,7 +3,6 @@ use Prim.Native.Nat.{ℕ, _*_}
 use mathlib.Core.Bool.{false}
 use mathlib.Core.List.{List, _++_}
 use mathlib.Core.Path.{_≡_, sym, _∙_}
-use lib.IntN.{ℤ}
 use lib.ListN.{length, take, drop}
 use Rattle.questions.specs.Answers.{earliest}
 use Rattle.sets.specs.declared.Params.{Params}
@@ -20,20 +19,13 @@ use Rattle.exchange.specs.Laws.Exchange.{vector-secret}
 use Rattle.pke.specs.Pke.{dataPoly, encrypted, decrypted}
 use Rattle.pke.specs.Promises.{Encrypted, Decrypted}
 
-pub data-steps :
-    (p : Params) (b message : List ℕ) (s : List ℤ) {v bits w d out : List ℕ} → v ≡ innerMod 1024 (p .l) b s →
-    bits ≡ unpacked 1 message → w ≡ maskedPoly v bits → d ≡ reconData (p .g) w → out ≡ packed (p .bits) d →
-    out ≡ packed (p .bits) (dataPoly p b s message)
-unfolding dataPoly
-data-steps p b message s v bits w d o = rw (o, d, w, bits, v)
-
 pub encrypt-steps :
-    (p : Params) (pk message seed : List ℕ) {first last s vector numbers : List ℕ} → first ≡ take (320 * p .l) pk →
+    (p : Params) (pk message seed : List ℕ) {first last s vector v numbers : List ℕ} → first ≡ take (320 * p .l) pk →
     last ≡ drop (320 * p .l) pk → s ≡ residues 8192 (secret (p .l) (p .mu) seed) →
-    vector ≡ packed 10 (roundedVector false (p .l) last (nat s)) →
-    numbers ≡ packed (p .bits) (dataPoly p (unpacked 10 first) (nat s) message) → vector ++ numbers ≡ encrypted p pk message seed
+    vector ≡ packed 10 (roundedVector false (p .l) last (nat s)) → v ≡ innerMod 1024 (p .l) (unpacked 10 first) (nat s) →
+    numbers ≡ packed (p .bits) (reconData (p .g) (maskedPoly v (unpacked 1 message))) → vector ++ numbers ≡ encrypted p pk message seed
 unfolding encrypted dataPoly
-encrypt-steps p pk message seed f l s v n = rw (v, n, s, f, l, vector-secret, inner-secret)
+encrypt-steps p pk message seed f l s b v n = rw (b, n, v, s, f, l, vector-secret, inner-secret)
 
 pub decrypt-steps :
     (p : Params) (plain ct : List ℕ) {first last secret v message : List ℕ} → first ≡ take (320 * p .l) ct →

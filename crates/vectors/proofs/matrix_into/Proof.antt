@@ -1,50 +1,63 @@
--- `vectors::matrix_into` meets its contract: each turn writes the next polynomial of the product.
-use Prim.Native.Nat.{_*_, _-_}
+-- `vectors::matrix_into` meets its contract: rows of sums, up to three a turn, all of them reduced.
+use Prim.Native.Nat.{_≤_, _+_, _*_, _-_}
 use mathlib.Core.Path.{_≡_, refl}
+use native.Mathlib.Nat.{mul-add}
 use native.Mathlib.Omega.{arith}
 use borrow.Author.Needs.{needs}
 use lib.ListN.{length, length-take, length-drop}
 use Rattle.lists.specs.Laws.Parts.{Prefix, prefix-none, prefix-part, prefix-all}
-use Rattle.algebra.specs.Ring.{nat, blocks}
-use Rattle.algebra.specs.Laws.Vectors.{prefix-block}
-use Rattle.vectors.specs.Vectors.{side, matrixRow, matrixVector}
-use Rattle.vectors.specs.Laws.Turns.{row-values, row-room}
+use Rattle.algebra.specs.Ring.{poly}
+use Rattle.vectors.specs.Vectors.{sums}
+use Rattle.vectors.specs.Laws.Turns.{sums-empty, rows-more, matrix-values, matrix-factors}
 use Rattle.vectors.proofs.matrix_into.Statement.{statement}
 use Rattle.vectors.proofs.matrix_into.Tie as tie
 
 abbrev Inv-loop : tie.InvT-loop
-Inv-loop transposed l matrix s out₀ row column i₀ out i =
-    Prefix (length out₀) out (256 * i) (blocks i (matrixRow l (side transposed l matrix) (nat s)))
+Inv-loop transposed l matrix s work₀ out₀ row column i₀ work out i = (i ≤ l) × (length work ≡ length work₀) × Prefix (length out₀) out (256 * i) (sums 65536 i l (λ i j. poly matrix (column * j + row * i)) s)
 
 abbrev μ-loop : tie.MeasureT-loop
-μ-loop transposed l matrix s out₀ row column i₀ out i = l - i
+μ-loop transposed l matrix s work₀ out₀ row column i₀ work out i = l - i
 
-loop-holds : tie.Need-loop-holds Inv-loop μ-loop
-unfolding blocks
-loop-holds c = prefix-none _
+sums-into-requires : tie.Need-sums-into-requires Inv-loop μ-loop
+sums-into-requires c κs =
+    let k = c .before .before in
+    let strides = k .before .before .before in
+    let start = strides .before .before .before .before .before .before in
+    let room = start .pre in
+    let few = k .some-rows .ensures in
+    record {
+      some = λ h. few .0;
+      most = omega (arith, few .1);
+      factors =
+          matrix-factors (start .args .transposed) (start .args .l) (strides .before .stride .ensures) (strides .stride2 .ensures) (room .matrix)
+          (k .before .before .loop .i) (k .some-rows .result) (omega (arith, few .2));
+      vector = room .vector;
+      space = omega (arith, room .space, few .1);
+      room = simp (length-take, length-drop) (omega (arith, room .room, few .2));
+    }
 
 loop-again : tie.Need-loop-again Inv-loop μ-loop
 loop-again c =
-    let k = c .before .before .before .before .before .before in
-    let s = k .before .before .before .before .before .before in
-    let x = s .args in
-    prefix-block 256 (k .loop .i) _
-    (row-values (x .transposed) (x .l) (k .loop .i) (k .before .before .stride .ensures) (k .before .stride2 .ensures) (x .matrix .now) (x .s .now)
-    (c .before .before .before .before .inner .ensures) (c .before .before .reduce .ensures))
-    (prefix-part _ (k .loop .inv) (omega arith) (omega (arith, s .pre .room)) (c .before .before .reduce .kept .1 .1 .0))
-
-reduce-requires : tie.Need-reduce-requires Inv-loop μ-loop
-reduce-requires c κs =
-    let s = c .before .before .before .before .before .before .before .before .before in
-    record { modulus = refl; room = simp (length-take, length-drop) (omega (arith, s .pre .room)) }
+    let k = c .before .before .before .before .before .before .before in
+    let at = k .before .before in
+    let strides = at .before in
+    let start = strides .before .before .before .before .before .before in
+    let v = c .before .before .before .before .sums-into in
+    let few = k .some-rows .ensures in (
+      omega (arith, few .2),
+      search needs,
+      rw (← rows-more (start .args .l) (strides .before .stride .result) (strides .stride2 .result) (at .loop .i) (k .some-rows .result) _ _ (v .ensures), mul-add 256 (at .loop .i) (k .some-rows .result))
+          (prefix-part _ (at .loop .inv .2) (omega arith) (omega (arith, start .pre .room, few .2)) (v .kept .1 .1 .1 .1 .1 .1 .1 .1 .0)),
+    )
 
 returns : tie.Need-returns Inv-loop μ-loop
-unfolding matrixVector
 returns c =
-    let s = c .before .before .before .before .before .before .before in
-    let e : c .before .loop .i ≡ s .args .l = omega (arith, s .pre .room) in
-    let w = prefix-all (c .before .loop .inv) (omega (arith, s .pre .room)) in
-    cc
+    let at = c .before .before .before .before .before in
+    let strides = at .before in
+    let start = strides .before .before .before .before .before .before in
+    let e : at .loop .i ≡ start .args .l = omega arith in
+    matrix-values (start .args .transposed) (start .args .l) (strides .before .stride .ensures) (strides .stride2 .ensures) _ _
+    (rw e at (prefix-all (at .loop .inv .2) (omega (arith, start .pre .room)))) (c .before .before .reduce .ensures)
 
 pub matrix-into-spec : {M : Type 1} → statement M
 matrix-into-spec =
@@ -54,22 +67,30 @@ matrix-into-spec =
     μ-loop
     (λ c κs. search needs)
     (λ c κs. search needs)
-    loop-holds
+    (λ c. (omega arith, refl, rw (← sums-empty _ _ _) (prefix-none _)))
+    (λ c. search needs)
+    (λ c κs. search needs)
+    (λ c. search needs)
     (λ c. search needs)
     (λ c. search needs)
     (λ c.
-    let k = c .before in
-    let s = k .before .before .before .before .before .before in
-    let r = row-room (s .args .transposed) (s .args .l) (k .loop .i) (k .before .before .stride .ensures) (k .before .stride2 .ensures) (s .pre) in
-    omega (arith, r (omega arith) .first 0 (omega arith)))
-    (λ c κs. search row-room)
+    let strides = c .before .before .before in
+    let start = strides .before .before .before .before .before .before in
+    let i = c .before .before .loop .i in
+    omega (
+      arith,
+      matrix-factors (start .args .transposed) (start .args .l) (strides .before .stride .ensures) (strides .stride2 .ensures) (start .pre .matrix) i 1
+          (omega arith) 0 0 (omega arith) (omega arith),
+    ))
     (λ c. search needs)
     (λ c. search needs)
     (λ c. search needs)
     (λ c. search needs)
-    reduce-requires
+    sums-into-requires
     (λ c. search needs)
     (λ c. search needs)
     loop-again
+    (λ c κs. search needs)
+    (λ c. search needs)
     (λ c. search needs)
     returns)
