@@ -1,5 +1,5 @@
 #!/bin/sh
-# Builds the archive and measures it: the scheme beside others, one ring product beside plain C, the hashes beside
+# Builds the archive and measures it: the scheme beside others, the ring products beside plain C, the hashes beside
 # OpenSSL's.
 set -eu
 cd "$(dirname "$0")/.."

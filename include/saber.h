@@ -11,11 +11,11 @@
 // - AN OUTPUT OVERLAPS NO OTHER BUFFER of its call, so no call works in place; what it would write then is not defined. Inputs may overlap.
 // - SEEDS, z among them, ARE FRESH, UNPREDICTABLE AND USED ONCE: 32 bytes that the system's generator (getrandom, getentropy) gives for
 //   this one call, kept secret and erased after it. The calls below say what goes wrong otherwise.
-// - SECRETS STAY ON THE STACK. No call clears what it leaves below its caller's frame, less than 32 KiB. To clear it, call right after it,
+// - SECRETS STAY ON THE STACK. No call clears what it leaves below its caller's frame, less than 36 KiB. To clear it, call right after it,
 //   from the same function, one that overwrites as much and is not inlined:
 //
 //       void clear_stack(void) {
-//           volatile uint8_t room[32768];
+//           volatile uint8_t room[36864];
 //           for (size_t i = 0; i < sizeof room; i++)
 //               room[i] = 0;
 //       }
@@ -150,6 +150,10 @@ uint8_t saber_gen_secret(uint32_t set, const uint8_t *seed, size_t seed_count, u
 // The product of two polynomials below the modulus, 1024 or 8192, where X to the 256 is -1. Refusals: 2, 7, 8, 9.
 uint8_t saber_poly_mul(uint32_t modulus, const uint16_t *a, size_t a_count, const uint16_t *b, size_t b_count, uint16_t *product,
                        size_t product_count);
+
+// The same product, made by splitting its factors into halves. Refusals: 2, 7, 8, 9.
+uint8_t saber_poly_mul_karatsuba(uint32_t modulus, const uint16_t *a, size_t a_count, const uint16_t *b, size_t b_count,
+                                 uint16_t *product, size_t product_count);
 
 // Rounds coefficients below 8192 to coefficients below 1024. Refusals: 7, 8, 9.
 uint8_t saber_round(const uint16_t *x, size_t x_count, uint16_t *rounded, size_t rounded_count);

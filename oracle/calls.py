@@ -180,6 +180,7 @@ TABLE = [
     call("gen_matrix", "set, seed", "matrix", 1, 3, 9),
     call("gen_secret", "set, seed", "secret", 1, 3, 9),
     call("poly_mul", "modulus, a: below_modulus, b: below_modulus", "product: below_modulus", 2, 7, 8, 9),
+    call("poly_mul_karatsuba", "modulus, a: below_modulus, b: below_modulus", "product: below_modulus", 2, 7, 8, 9),
     call("round", "x: below_q", "rounded: below_p", 7, 8, 9),
     call("recon_data", "set, w: below_p", "data", 1, 7, 8, 9),
     call("recover", "set, v: below_p, data", "bits", 1, 7, 8, 9),

@@ -23,7 +23,7 @@ import notation
 import saber
 from calls import CALLS
 from samples import NIST_FILES, bits, counted_secret, draw, draw_list, flipped, laid_record, lent_bytes, lent_list
-from samples import monomial, rejected_secret, vectors, with_bit_turned
+from samples import monomial, rejected_secret, spread, vectors, with_bit_turned
 
 UNKNOWN_SETS = (4, 5, 4294967295)
 UNKNOWN_WIDTHS = (0, 2, 5, 12, 14, 16, 1024, 4294967295)
@@ -223,32 +223,71 @@ def sha3_512_section():
     return digest_section("sha3_512", 72, 64)
 
 
-def poly_mul_section():
-    yield "# poly_mul: the cases of document 01"
-    yield ask("poly_mul", 8192, monomial(255), monomial(1), lent_list(), stated=(0, [monomial(0, 8191)]))
-    yield ask("poly_mul", 1000, monomial(0), monomial(0), lent_list(), stated=(2, [lent_list()]))
+def product_section(name):
+    yield f"# {name}: the cases of document 01"
+    yield ask(name, 8192, monomial(255), monomial(1), lent_list(), stated=(0, [monomial(0, 8191)]))
+    yield ask(name, 1000, monomial(0), monomial(0), lent_list(), stated=(2, [lent_list()]))
     for modulus in saber.MODULI:
         top, lent = modulus - 1, lent_list()
-        yield f"# poly_mul, modulus {modulus}: random"
+        yield f"# {name}, modulus {modulus}: random"
         for turn in range(8):
-            a = draw_list(f"poly_mul {modulus} {turn} a", modulus)
-            yield ask("poly_mul", modulus, a, draw_list(f"poly_mul {modulus} {turn} b", modulus), lent)
-        yield f"# poly_mul, modulus {modulus}: all the largest, all 0, monomials, one times a"
-        a = draw_list(f"poly_mul {modulus} a", modulus)
-        yield ask("poly_mul", modulus, [top] * 256, [top] * 256, lent)
-        yield ask("poly_mul", modulus, a, [top] * 256, lent)
-        yield ask("poly_mul", modulus, a, ZERO, lent, stated=(0, [ZERO]))
-        yield ask("poly_mul", modulus, ZERO, a, lent, stated=(0, [ZERO]))
-        yield ask("poly_mul", modulus, a, monomial(0), lent, stated=(0, [a]))
-        yield ask("poly_mul", modulus, monomial(0), a, lent, stated=(0, [a]))
-        yield ask("poly_mul", modulus, a, monomial(0, top), lent, stated=(0, [[-x % modulus for x in a]]))
-        yield ask("poly_mul", modulus, a, monomial(255), lent, stated=(0, [[-x % modulus for x in a[1:]] + a[:1]]))
-        yield ask("poly_mul", modulus, monomial(255), monomial(255), lent, stated=(0, [monomial(254, top)]))
-        yield ask("poly_mul", modulus, monomial(255, top), monomial(255, top), lent, stated=(0, [monomial(254, top)]))
-        yield ask("poly_mul", modulus, monomial(0, top), monomial(255, top), lent, stated=(0, [monomial(255)]))
-        sound = [modulus, a, draw_list(f"poly_mul {modulus} b", modulus), lent]
+            a = draw_list(f"{name} {modulus} {turn} a", modulus)
+            yield ask(name, modulus, a, draw_list(f"{name} {modulus} {turn} b", modulus), lent)
+        yield f"# {name}, modulus {modulus}: all the largest, all 0, monomials, one times a"
+        a = draw_list(f"{name} {modulus} a", modulus)
+        square = [(2 * k - 254) % modulus for k in range(256)]  # k + 1 products of -1 and -1, less 255 - k
+        yield ask(name, modulus, [top] * 256, [top] * 256, lent, stated=(0, [square]))
+        yield ask(name, modulus, a, [top] * 256, lent)
+        yield ask(name, modulus, a, ZERO, lent, stated=(0, [ZERO]))
+        yield ask(name, modulus, ZERO, a, lent, stated=(0, [ZERO]))
+        yield ask(name, modulus, a, monomial(0), lent, stated=(0, [a]))
+        yield ask(name, modulus, monomial(0), a, lent, stated=(0, [a]))
+        yield ask(name, modulus, a, monomial(0, top), lent, stated=(0, [[-x % modulus for x in a]]))
+        yield ask(name, modulus, a, monomial(255), lent, stated=(0, [[-x % modulus for x in a[1:]] + a[:1]]))
+        yield ask(name, modulus, monomial(255), monomial(255), lent, stated=(0, [monomial(254, top)]))
+        yield ask(name, modulus, monomial(255, top), monomial(255, top), lent, stated=(0, [monomial(254, top)]))
+        yield ask(name, modulus, monomial(0, top), monomial(255, top), lent, stated=(0, [monomial(255)]))
+        sound = [modulus, a, draw_list(f"{name} {modulus} b", modulus), lent]
         unknown = UNKNOWN_MODULI if modulus == 8192 else (1000,)
-        yield from refusals(f"poly_mul, modulus {modulus}", "poly_mul", sound, unknown)
+        yield from refusals(f"{name}, modulus {modulus}", name, sound, unknown)
+
+
+def poly_mul_section():
+    return product_section("poly_mul")
+
+
+def halves_of(a):
+    """A polynomial without its high half, and without its low half."""
+    return a[:128] + [0] * 128, [0] * 128 + a[128:]
+
+
+EDGES = (0, 15, 16, 127, 128, 255)  # the first and last places, and those beside an edge of a half or of a last piece
+
+
+def poly_mul_karatsuba_section():
+    name = "poly_mul_karatsuba"
+    yield from product_section(name)
+    lent = lent_list()
+    for modulus in saber.MODULI:
+        top = modulus - 1
+        yield f"# {name}, modulus {modulus}: monomials at the edges of the pieces"
+        for i, j in itertools.product(EDGES, EDGES):
+            if modulus == 8192 or i <= j:
+                power = monomial(i + j) if i + j < 256 else monomial(i + j - 256, top)
+                yield ask(name, modulus, monomial(i), monomial(j), lent, stated=(0, [power]))
+        yield f"# {name}, modulus {modulus}: no two halves alike: all coefficients differ, then those of X to the 16 k"
+        up, down = list(range(256)), [top - i for i in range(256)]
+        for a, b in itertools.product((up, down), repeat=2):
+            yield ask(name, modulus, a, b, lent)
+        first, second = [k + 1 for k in range(16)], [top - 37 * k for k in range(16)]
+        for a, b in itertools.product((first, second), repeat=2):
+            stated = saber.modulo(saber.plain_product(a, b), modulus)
+            yield ask(name, modulus, spread(a), spread(b), lent, stated=(0, [spread(stated)]))
+        yield f"# {name}, modulus {modulus}: one half of each factor, random and then all the largest"
+        random = (draw_list(f"{name} {modulus} half {factor}", modulus) for factor in "ab")
+        for a, b in (random, ([top] * 256, [top] * 256)):
+            for half, other in itertools.product(halves_of(a), halves_of(b)):
+                yield ask(name, modulus, half, other, lent)
 
 
 def round_section():
@@ -628,6 +667,7 @@ SECTIONS = {
     "sha3_256": sha3_256_section,
     "sha3_512": sha3_512_section,
     "poly_mul": poly_mul_section,
+    "poly_mul_karatsuba": poly_mul_karatsuba_section,
     "round": round_section,
     "gen_matrix": gen_matrix_section,
     "gen_secret": gen_secret_section,
@@ -670,7 +710,8 @@ def notation_section():
         b"Pack 5 - -", b"PACK 5 - -", b"pac 5 - -", b"packs 5 - -", b"pack,5,-,-", b"-", b"0", b"error",
         b"pack\t5 - -", b"pack\r", b"\r", b"pack\0 5 - -", b"\0", b"\xff\xfe",
         b"\xef\xbb\xbfpack 5 - -", b" # no comment", b"public_key", b"public_key_of_ 1 -",
-        b"unpack_ 5 - -",
+        b"unpack_ 5 - -", b"poly_mul_ 1024 - - -", b"poly_mul_karatsub 1024 - - -", b"poly_mul_karatsuba_ 1024 - - -",
+        b"karatsuba 1024 - - -",
     )
     yield from normal()
 
@@ -679,7 +720,8 @@ def notation_section():
         "wrong count",
         b"pack", b"pack 5", b"pack 5 -", b"unpack 13 00", b"public_key_of", b"public_key_of 2",
         b"pack 5 - - -", b"pack 5 - - ", b"pack 5 - -  ", b"public_key_of 2 - 00",
-        b"public_key_of 2 00 ", b"pack 13 0001 02 x", b"unpack 5 - - \xff",
+        b"public_key_of 2 00 ", b"pack 13 0001 02 x", b"unpack 5 - - \xff", b"poly_mul_karatsuba 1024 - -",
+        b"poly_mul_karatsuba 1024 - - - -",
     )
     yield from normal()
 

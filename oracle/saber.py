@@ -155,6 +155,9 @@ def poly_mul(modulus, a, b):
     return modulo(product(a, b), modulus)
 
 
+poly_mul_karatsuba = poly_mul  # A3: it "must agree with the plain one on every pair of polynomials"
+
+
 def round(numbers):
     return [(x + 4) % Q // 8 for x in numbers]
 

@@ -29,6 +29,11 @@ def monomial(place, coefficient=1):
     return [coefficient if i == place else 0 for i in range(256)]
 
 
+def spread(coefficients):
+    """A polynomial of 16 coefficients in Y, with X to the 16 for Y. Products are spread alike: Y to the 16 is -1."""
+    return [coefficients[i // 16] if i % 16 == 0 else 0 for i in range(256)]
+
+
 def with_bit_turned(string, bit):
     return (int.from_bytes(string, "little") ^ 1 << bit).to_bytes(len(string), "little")
 

@@ -14,6 +14,8 @@ from calls import CALLS, run
 from samples import NIST_FILES, bits, counted_secret, draw, draw_list, flipped, laid_record, lent_bytes, monomial
 from samples import rejected_secret, vectors, with_bit_turned
 
+PRODUCTS = ("poly_mul", "poly_mul_karatsuba")  # the plain one and A3's, which asks the same questions
+
 counts = {"checks": 0, "failed": 0}
 
 
@@ -56,8 +58,10 @@ def cases():
     for width, start, string in ((13, [8191, 0], "ff1f"), (13, [0, 1], "0020"), (10, [0, 1], "0004")):
         answer, [packed] = run("pack", width, start + [0] * 254, bytes(32 * width))
         check(f"width {width}: {start}", answer == 0 and packed[:2] == bytes.fromhex(string) and not any(packed[2:]))
-    power = run("poly_mul", 8192, monomial(255), monomial(1), [7] * 256)
-    check("X to the 255 times X", power == (0, [monomial(0, 8191)]))
+    for name in PRODUCTS:
+        power = run(name, 8192, monomial(255), monomial(1), [7] * 256)
+        check(f"{name}: X to the 255 times X", power == (0, [monomial(0, 8191)]))
+        check(f"{name} modulo 1000", run(name, 1000, monomial(0), monomial(0), [7] * 256) == (2, [[7] * 256]))
 
     check("set 2, v' = 63, bit 1: data 8", saber.data_of(saber.SETS[2], saber.masked(saber.SETS[2], 63, 1)) == 8)
     check("data of w = 575", run("recon_data", 2, [575] * 256, [7] * 256) == (0, [[8] * 256]))
@@ -71,7 +75,6 @@ def cases():
         check(f"set {number}, public key {size}, seed {seed}", answer == expected)
     for coefficient, expected in ((1023, 0), (1024, 8)):
         check(f"packing {coefficient}", run("pack", 10, monomial(0, coefficient), bytes(320))[0] == expected)
-    check("product modulo 1000", run("poly_mul", 1000, monomial(0), monomial(0), [7] * 256) == (2, [[7] * 256]))
 
     lines = "set l mu t g pk sk ct margin\n1 2 10 4 128 672 1568 736 192\n2 3 8 8 64 992 2304 1088 224\n"
     check("saberset", saber.table() == lines + "3 4 6 32 16 1312 3040 1472 248\n")
@@ -128,6 +131,43 @@ def ring():
         a = draw_list("selftest shift", 8192)
         shifted = [-x % 8192 for x in a[256 - place :]] + a[: 256 - place]
         check(f"times X to the {place}", run("poly_mul", 8192, a, monomial(place), [7] * 256) == (0, [shifted]))
+
+
+def split_product(a, b):
+    """A3's product with nothing folded: halves in turn until 16 coefficients remain, three half products for four."""
+    half = len(a) // 2
+    if half < 16:
+        return saber.plain_product(a + [0] * len(a), b + [0] * len(b))
+    low, high = split_product(a[:half], b[:half]), split_product(a[half:], b[half:])
+    both = split_product(*([x + y for x, y in zip(c[:half], c[half:])] for c in (a, b)))
+    middle = [0] * half + [x - y - z for x, y, z in zip(both, low, high)] + [0] * half
+    return [x + y for x, y in zip(low + high, middle)]
+
+
+def folded(c):
+    """The coefficients of 1, X, .. less those that stand n places on, as X to the n is -1."""
+    n = len(c) // 2
+    return [x - y for x, y in zip(c[:n], c[n:])]
+
+
+def splitting():
+    """The product by splitting is the plain one, at every length 16 times a power of two, and the call gives it."""
+    for n in (16, 32, 64, 128, 256):
+        for limit in (2, 1024, 8192, 65536):
+            a, b = (draw_list(f"selftest splitting {n} {limit} {factor}", limit, n) for factor in "ab")
+            signed = [x - limit // 2 for x in a]
+            top, signs = [limit - 1] * n, [(limit - 1) * (-1) ** i for i in range(n)]
+            for x, y in ((a, b), (b, a), (signed, b), (top, top), (signs, top), (signs, signs), (a, top), (a, [0] * n)):
+                check(f"{n} coefficients split", folded(split_product(x, y)) == saber.plain_product(x, y))
+    for i, j in itertools.product((0, 15, 16, 127, 128, 255), repeat=2):
+        product = saber.plain_product(monomial(i), monomial(j))
+        check(f"X to the {i} times X to the {j} split", folded(split_product(monomial(i), monomial(j))) == product)
+    for modulus in saber.MODULI:
+        a, b = (draw_list(f"selftest splitting {modulus} {factor}", modulus) for factor in "ab")
+        for x, y in ((a, b), ([modulus - 1] * 256, [modulus - 1] * 256), (list(range(256)), b)):
+            product = saber.modulo(folded(split_product(x, y)), modulus)
+            for name in PRODUCTS:
+                check(f"{name}, modulus {modulus}", run(name, modulus, x, y, [7] * 256) == (0, [product]))
 
 
 def rounding():
@@ -329,10 +369,10 @@ def refusals():
             [1, seed, [0] * 512],
             (0, 4294967295, 1), (1, seed + b"0", 3), (2, [0] * 511, 9),
         ),
-        "poly_mul": (
+        **dict.fromkeys(PRODUCTS, (
             [1024, full, full, full],
             (0, 1000, 2), (1, full[1:], 7), (2, full + [0], 7), (1, over, 8), (2, over, 8), (3, [], 9),
-        ),
+        )),
         "round": (
             [full, full],
             (0, full[1:], 7), (0, monomial(0, 8192), 8), (1, full + [0], 9),
@@ -475,7 +515,7 @@ def limits():
     """What coefficients have to lie below, in every list of every call; stated here a second time too."""
     stated = {("round", None): [8192]}
     stated |= {("pack", width): [2**width] for width in (1, 3, 4, 6, 10, 13)}
-    stated |= {("poly_mul", modulus): [modulus, modulus] for modulus in (1024, 8192)}
+    stated |= {(name, modulus): [modulus, modulus] for name in PRODUCTS for modulus in (1024, 8192)}
     for number, data in enumerate((16, 8, 16, 64)):
         stated |= {("recon_data", number): [1024], ("recover", number): [1024, data]}
     for (name, number), values in stated.items():
@@ -502,7 +542,7 @@ def lines():
 
 
 def main():
-    parts = (cases, hashes, random_bytes, packing, ring, rounding, sampling, margin, small_noise)
+    parts = (cases, hashes, random_bytes, packing, ring, splitting, rounding, sampling, margin, small_noise)
     for part in (*parts, refusals, records, readings, limits, lines):
         part()
     for number in saber.NUMBERS:

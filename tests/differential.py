@@ -85,10 +85,11 @@ def table(calls, sets, answers):
     """How often each call was made, with which set and with which answer; the lookup answers with no number."""
     numbers = [0, *sorted({question for call in CALLS.values() for question in call.questions})]
     columns = ["calls", *(f"set {n}" for n in saber.NUMBERS), *(f"-> {n}" for n in numbers)]
-    lines = [f"{'call':14}" + "".join(f"{column:>7}" for column in columns)]
+    width = 1 + max(map(len, CALLS))
+    lines = [f"{'call':{width}}" + "".join(f"{column:>7}" for column in columns)]
     for name in CALLS:
         row = [calls[name], *(sets[name, n] for n in saber.NUMBERS), *(answers[name, n] for n in numbers)]
-        lines.append(f"{name:14}" + "".join(f"{count or '':>7}" for count in row))
+        lines.append(f"{name:{width}}" + "".join(f"{count or '':>7}" for count in row))
     return "\n".join(lines)
 
 

@@ -125,6 +125,7 @@ static void layers(uint32_t set) {
         mark_list(a, moduli[i]);
         mark_list(b, moduli[i]);
         WRITES(list, SABER_N, BY_CONTENT, poly_mul, moduli[i], a, SABER_N, b, SABER_N);
+        WRITES(list, SABER_N, BY_CONTENT, poly_mul_karatsuba, moduli[i], a, SABER_N, b, SABER_N);
     }
     WRITES(list, SABER_N, BY_CONTENT, round, a, SABER_N);
     mark_list(a, 1024);

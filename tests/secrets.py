@@ -33,6 +33,7 @@ CONTROL = "a control, which has to be found"
 LISTED = {
     ("jump", "saber_pack"): (1, Q8),
     ("jump", "saber_poly_mul"): (3, Q8),
+    ("jump", "saber_poly_mul_karatsuba"): (3, Q8),
     ("jump", "saber_recon_data"): (1, Q8),
     ("jump", "saber_recover"): (2, Q8),
     ("jump", "saber_round"): (1, Q8),

@@ -1,12 +1,12 @@
 // What the calls leave on the stack. Each runs on a stack of its own that was painted before: it must need less than
-// the 32 KiB that include/saber.h names, and what it leaves must be gone after the function that the header shows.
+// the 36 KiB that include/saber.h names, and what it leaves must be gone after the function that the header shows.
 #define _XOPEN_SOURCE 700
 #include "own_stack.h"
 #include <saber.h>
 #include <stdio.h>
 #include <stdlib.h>
 
-enum { SET = SABER_SET_FIRESABER, ROOM = 32768 };
+enum { SET = SABER_SET_FIRESABER, ROOM = 36864 };
 enum { OWN = 64 }; // bytes at the top for the frames of this program itself
 
 static uint8_t seeds[4][32], public_key[FIRESABER_PUBLIC_KEY_BYTES], secret_key[FIRESABER_SECRET_KEY_BYTES];
@@ -28,6 +28,7 @@ static uint32_t number;
     DO(gen_matrix, SET, ALL(seeds[0]), ALL(matrix))                                                \
     DO(gen_secret, SET, ALL(seeds[1]), ALL(secret))                                                \
     DO(poly_mul, 8192, matrix, SABER_N, secret, SABER_N, ALL(a))                                   \
+    DO(poly_mul_karatsuba, 8192, matrix, SABER_N, secret, SABER_N, ALL(a))                         \
     DO(round, ALL(a), ALL(b))                                                                      \
     DO(recon_data, SET, ALL(b), ALL(c))                                                            \
     DO(recover, SET, ALL(b), ALL(c), ALL(a))                                                       \

@@ -22,8 +22,8 @@ import saber
 
 JAR = pathlib.Path("/usr/share/java/bcprov.jar")
 CALLS = ("keygen", "encaps", "decaps")
-# As callgrind names them: Keccak-f, and the functions that the products stand in.
-KECCAK, PRODUCTS = "keccak::permute", ("exchange::vector_into", "exchange::inner_into")
+# As callgrind names them: Keccak-f, and the functions that the products stand in, of which the first calls itself.
+KECCAK, PRODUCTS = "keccak::permute", ("halves::split", "halves::split'2", "karatsuba::rows_add")
 ROWS = [(number, call) for number in saber.SETS for call in CALLS]
 
 # Document 000, section 5: cycles of a 2.6 GHz processor.
@@ -83,8 +83,7 @@ def counted(work, program):
 
 
 def shares(counts, number, call):
-    """The parts of Keccak-f and of the products, the latter with the unpacking, rounding and packing about them, which
-    the compiler puts in line."""
+    """The parts of Keccak-f and of the products."""
     row = counts[number, call]
     return row[KECCAK] / row["TOTALS"], sum(row.get(name, 0) for name in PRODUCTS) / row["TOTALS"]
 

@@ -7,8 +7,8 @@
 //!
 //! - **Seeds, z among them, are fresh, unpredictable and used once**: 32 bytes that the system's generator gives for this one call, kept
 //!   secret and erased after it. The calls say what goes wrong otherwise.
-//! - **Secrets stay on the stack.** No call clears what it leaves below its caller's frame, less than 32 KiB. To clear it, call right after
-//!   it, from the same function, one that is `#[inline(never)]` and overwrites a local array of 32 KiB with `write_volatile`, or run the
+//! - **Secrets stay on the stack.** No call clears what it leaves below its caller's frame, less than 36 KiB. To clear it, call right after
+//!   it, from the same function, one that is `#[inline(never)]` and overwrites a local array of 36 KiB with `write_volatile`, or run the
 //!   calls on a stack of your own and erase that.
 #![no_std]
 
@@ -132,6 +132,8 @@ calls! {
     gen_secret = saber_gen_secret [set] (seed: u8) => (secret: u16);
     /// The product of two polynomials below the modulus, 1024 or 8192, where X to the 256 is -1.
     poly_mul = saber_poly_mul [modulus] (a: u16, b: u16) => (product: u16);
+    /// The same product as [`poly_mul`], made by splitting its factors into halves.
+    poly_mul_karatsuba = saber_poly_mul_karatsuba [modulus] (a: u16, b: u16) => (product: u16);
     /// Rounds coefficients below 8192 to coefficients below 1024.
     round = saber_round [] (x: u16) => (rounded: u16);
     /// Reconciliation data of coefficients below 1024.

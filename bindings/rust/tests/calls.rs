@@ -65,11 +65,32 @@ fn refusals_leave_outputs_alone() {
     assert_eq!((ciphertext, shared), ([0xa5; 1088], [0xa5; SEED]));
 
     let mut list = [0xa5a5; N];
-    assert_eq!(saber::poly_mul(1000, &[0; N], &[0; N], &mut list), Err(Refusal::UnknownNumber));
-    assert_eq!(saber::poly_mul(1024, &[0; N], &[0; 255], &mut list), Err(Refusal::InputLength));
-    assert_eq!(saber::poly_mul(1024, &[0; N], &[1024; N], &mut list), Err(Refusal::CoefficientRange));
+    for product in [saber::poly_mul, saber::poly_mul_karatsuba] {
+        assert_eq!(product(1000, &[0; N], &[0; N], &mut list), Err(Refusal::UnknownNumber));
+        assert_eq!(product(1024, &[0; N], &[0; 255], &mut list), Err(Refusal::InputLength));
+        assert_eq!(product(1024, &[0; N], &[1024; N], &mut list), Err(Refusal::CoefficientRange));
+        assert_eq!(product(1024, &[0; N], &[0; N], &mut list[1..]), Err(Refusal::OutputLength));
+    }
     assert_eq!(saber::unpack(10, &[0; 320], &mut list[1..]), Err(Refusal::OutputLength));
     assert_eq!(list, [0xa5a5; N]);
+}
+
+// Times X to the place: coefficients move up, and those that pass X to the 255 change their sign.
+#[test]
+fn products_by_monomials() {
+    for modulus in [1024, 8192] {
+        let a: [u16; N] = std::array::from_fn(|i| 37 * i as u16 % modulus);
+        for place in [0, 1, 15, 16, 127, 128, 255] {
+            let mut monomial = [0; N];
+            monomial[place] = 1;
+            let moved = std::array::from_fn(|i| if i < place { (modulus - a[N + i - place]) % modulus } else { a[i - place] });
+            for product in [saber::poly_mul, saber::poly_mul_karatsuba] {
+                let mut list = [0xa5a5; N];
+                assert_eq!(product(modulus.into(), &a, &monomial, &mut list), Ok(()));
+                assert_eq!(list, moved);
+            }
+        }
+    }
 }
 
 // An entry's record by hand, without its ciphertext.

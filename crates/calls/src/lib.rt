@@ -13,6 +13,7 @@ pub enum Call {
     GenMatrix,
     GenSecret,
     PolyMul,
+    PolyMulKaratsuba,
     Round,
     ReconData,
     Recover,
@@ -114,6 +115,8 @@ pub fn row_of(name: &[u8]) -> Found {
     let f = entry(f, name, b"gen_matrix", Call::GenMatrix, 1, 1, 0, 0, 1);
     let f = entry(f, name, b"gen_secret", Call::GenSecret, 1, 1, 0, 0, 1);
     let f = entry(f, name, b"poly_mul", Call::PolyMul, 1, 0, 2, 0, 1);
+    let karatsuba = Call::PolyMulKaratsuba;
+    let f = entry(f, name, b"poly_mul_karatsuba", karatsuba, 1, 0, 2, 0, 1);
     let f = entry(f, name, b"round", Call::Round, 0, 0, 1, 0, 1);
     let f = entry(f, name, b"recon_data", Call::ReconData, 1, 0, 1, 0, 1);
     let f = entry(f, name, b"recover", Call::Recover, 1, 0, 2, 0, 1);
@@ -149,6 +152,7 @@ pub fn make_call(
         Call::GenMatrix => sampling::gen_matrix(number, first, result),
         Call::GenSecret => sampling::gen_secret(number, first, result),
         Call::PolyMul => ring::poly_mul(number, left, right, result),
+        Call::PolyMulKaratsuba => karatsuba::poly_mul_karatsuba(number, left, right, result),
         Call::Round => rounding::round(left, result),
         Call::ReconData => reconciliation::recon_data(number, left, result),
         Call::Recover => reconciliation::recover(number, left, right, result),

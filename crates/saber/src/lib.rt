@@ -120,6 +120,19 @@ pub extern "C" fn saber_poly_mul(modulus: u32, a: &[u16], b: &[u16], product: &m
     ring::poly_mul(modulus, a, b, product)
 }
 
+// The same product, by halves: Q2, Q7, Q8, Q9.
+#[no_mangle]
+pub extern "C" fn saber_poly_mul_karatsuba(
+    modulus: u32,
+    a: &[u16],
+    b: &[u16],
+    product: &mut [u16],
+) -> u8
+    ensures { λ r. ⌜ Multiplied modulus (now (a .entry)) (now (b .entry)) (now (product .entry)) r (now (product .exit)) ⌝ }
+{
+    karatsuba::poly_mul_karatsuba(modulus, a, b, product)
+}
+
 // Rounding of one polynomial: Q7, Q8, Q9.
 #[no_mangle]
 pub extern "C" fn saber_round(x: &[u16], rounded: &mut [u16]) -> u8
