@@ -91,7 +91,8 @@ fn fold_row(work: &[u16], x: usize, s: usize, out: &mut [u16])
 // The same for each row, the products at x.
 fn fold(rows: usize, work: &[u16], x: usize, out: &mut [u16])
     requires { ⌜ (x + 512 * rows ≤ length (now work)) × (length (now out) ≡ 256 * rows) ⌝ }
-    ensures { λ _. ⌜ now (out .exit) ≡ blocks rows (λ (i : ℕ). from 256 (foldRow (now (work .entry)) (x + 16 * i) (16 * rows) (poly (now (out .entry)) i))) ⌝ }
+    ensures { λ _. ⌜ now (out .exit)
+        ≡ blocks rows (λ (i : ℕ). from 256 (foldRow (now (work .entry)) (x + 16 * i) (16 * rows) (poly (now (out .entry)) i))) ⌝ }
 {
     let mut i = 0;
     while i < rows {

@@ -67,6 +67,8 @@ pub record Upper (p row low : List ℕ) (n : ℕ) (r : List ℕ) : Type 0 where
 -- the plain products of 16 coefficients of the first n rows, at out; beyond the products of all rows nothing changes
 pub record Plain (rows n a out : ℕ) (w w′ : List ℕ) : Type 0 where
   pub size : length w′ ≡ length w
-  pub value : (i k : ℕ) → i < n → k < 32 → Same 65536 (reads w′ (out + 16 * i + place (16 * rows) k)) (conv (operand rows 1 w a rows) (operand rows 1 w a i) k)
+  pub value :
+      (i k : ℕ) → i < n → k < 32 →
+      Same 65536 (reads w′ (out + 16 * i + place (16 * rows) k)) (conv (operand rows 1 w a rows) (operand rows 1 w a i) k)
   pub below : (p : ℕ) → p < out → getD w′ p 0 ≡ getD w p 0
   pub above : (p : ℕ) → out + 32 * rows ≤ p → getD w′ p 0 ≡ getD w p 0

@@ -18,9 +18,8 @@ pub record InnerRoom (l a s work : ℕ) : Type 0 where
   pub second : s ≡ 256 * l
   pub space : 2120 ≤ work
 
--- what `matrix_into` asks: a matrix of up to four rows, a vector, and places to work in at three rows and for the product
+-- what `matrix_into` asks: a matrix, a vector, and places to work in at three rows and for the product
 pub record MatrixRoom (l A s work out : ℕ) : Type 0 where
-  pub most : l ≤ 4
   pub matrix : A ≡ 256 * (l * l)
   pub vector : s ≡ 256 * l
   pub space : 4632 ≤ work

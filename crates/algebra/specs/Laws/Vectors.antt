@@ -1,9 +1,9 @@
 -- Laws of vectors as flat lists.
 use Prim.Native.Nat.{ℕ, zero, suc, _+_, _*_, _<_, _≤_}
-use mathlib.Core.List.{List, [], _∷_, _++_, map, map-append}
-use mathlib.Core.Path.{_≡_, refl, _∙_, ap, ap₂}
+use mathlib.Core.List.{List, [], _∷_, _++_, map, map-append, append-nil, append-assoc}
+use mathlib.Core.Path.{_≡_, refl, sym, _∙_, ap, ap₂}
 use native.Mathlib.Decide.{decLt}
-use native.Mathlib.Nat.{mul-le-mul-left, mul-suc}
+use native.Mathlib.Nat.{add-zero, add-suc, mul-le-mul-left, mul-suc}
 use native.Mathlib.Omega.{arith}
 use lib.ListN.{length, take, drop, length-append, length-take, length-drop}
 use lib.Seq.{take-append-le, drop-append-le, drop-at, take-all}
@@ -37,6 +37,13 @@ module _ {A : Type 0} where
   unfolding blocks
   blocks-cong zero f g e = refl
   blocks-cong (suc l) f g e = ap₂ _++_ (blocks-cong l f g (λ i h. e i (omega arith))) (e l (omega arith))
+
+  -- n blocks and then k more
+  pub blocks-append : (n k : ℕ) (f : ℕ → List A) → blocks (n + k) f ≡ blocks n f ++ blocks k (λ i. f (n + i))
+  unfolding blocks
+  blocks-append n zero f = rw add-zero (sym (append-nil (blocks n f)))
+  blocks-append n (suc k) f =
+      rw add-suc (ap (λ t. t ++ f (n + k)) (blocks-append n k f) ∙ append-assoc (blocks n f) (blocks k (λ i. f (n + i))) (f (n + k)))
 
   -- of l blocks, each of w elements
   module _ (w : ℕ) where

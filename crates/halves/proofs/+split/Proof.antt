@@ -28,10 +28,13 @@ split-below t = and 1 split-kinds.ps (falls 1 split-kinds.ps _<_ μ-split t) spl
 -- with more than one line
 halved :
     (t : ℕ)
-    (o : split-lts.Else1 (plain-reads.Asked, plain-reads.Learnt, add-reads.Asked, add-reads.Learnt, split-below t, split.Post, join-reads.Asked, join-reads.Learnt) (split-at t) split.Post) →
+    (o : split-lts.Else1
+    (plain-reads.Asked, plain-reads.Learnt, add-reads.Asked, add-reads.Learnt, split-below t, split.Post, join-reads.Asked, join-reads.Learnt)
+    (split-at t) split.Post) →
     Half (o .before .before .args .lines) (o .before .before .args .lines / 2)
 halved t o = let r = o .before .before .pre .1 in half (o .before .before .args .lines) (r .depth) (r .sized) (o .if1 .left)
 
+-- each step of a level stands four places behind the one before it
 pub +split-spec : {M : Type 1} → statement M
 +split-spec = close μ-split λ t. split-lts.spec
     (plain-reads.Asked, plain-reads.Learnt, add-reads.Asked, add-reads.Learnt, split-below t, split.Post, join-reads.Asked, join-reads.Learnt)
@@ -39,7 +42,7 @@ pub +split-spec : {M : Type 1} → statement M
     split.Post
     (λ c κs. plain-room (c .before .before .before .pre .1) (c .before .if1 .taken))
     (λ c. c .before .before .plain .ensures .size)
-    (λ c. plain-halved (c .before .before .before .before .before .before .pre .1) (c .before .before .before .before .if1 .taken) (c .before .before .plain .ensures))
+    (λ c. let s = c .before .before .before .before in plain-halved (s .before .before .pre .1) (s .if1 .taken) (c .before .before .plain .ensures))
     (λ c. let r = c .before .before .pre .1 in omega (arith, r .most, room-left r (halved t c) refl))
     (λ c. let r = c .before .before .pre .1 in omega (arith, r .most, room-left r (halved t c) refl))
     (λ c. let r = c .before .before .pre .1 in omega (arith, r .most, room-left r (halved t c) refl))
@@ -48,51 +51,82 @@ pub +split-spec : {M : Type 1} → statement M
     (λ c. let r = c .before .before .pre .1 in omega (arith, r .most, room-left r (halved t c) refl))
     (λ c. let r = c .before .before .pre .1 in omega (arith, r .most, room-left r (halved t c) refl))
     (λ c. let r = c .before .before .pre .1 in omega (arith, r .most, room-left r (halved t c) refl))
-    (λ c. let o = c .before in let r = o .before .before .pre .1 in omega (arith, room-left r (halved t o) refl, fields r (halved t o)))
-    (λ c κs. sum-room (c .before .before .before .pre .1) (halved t (c .before)) refl)
-    (λ c. let o = c .before .before .before .before .before in let r = o .before .before .pre .1 in omega (arith, room-left r (halved t o) refl, fields r (halved t o)))
-    (λ c. let o = c .before .before .before .before .before in let r = o .before .before .pre .1 in omega (arith, room-left r (halved t o) refl, fields r (halved t o)))
-    (λ c. let o = c .before .before .before .before .before in let r = o .before .before .pre .1 in omega (arith, room-left r (halved t o) refl, fields r (halved t o)))
-    (λ c κs.
-    let o = c .before .before .before .before .before in
-    let s = o .before .before in
-    let r = s .pre .1 in
-    let x = halved t o in (
-      omega (arith, s .pre .0, x .even, least r x),
-      room-high r x (c .before .before .before .add .ensures .size) (blank-high (s .args .rows) (s .args .lines / 2) _ _ (s .args .a) (s .args .out) (s .args .free) _ refl refl (fields r x) (blank-both r x)
-          (c .before .before .before .add .ensures)),
-    ))
-    (λ c κs.
-    let o = c .before .before .before .before .before .before .before .before .before in
-    let s = o .before .before in
-    let r = s .pre .1 in
-    let x = halved t o in (
-      omega (arith, s .pre .0, x .even, least r x),
-      room-mid r x (c .before .before .before .split .ensures .size ∙ c .before .before .before .before .before .before .before .add .ensures .size)
-          (blank-mid (s .args .rows) (s .args .lines / 2) _ _ (s .args .a) (s .args .out) (s .args .free) _ refl refl (fields r x) (blank-both r x)
-          (c .before .before .before .before .before .before .before .add .ensures) (c .before .before .before .split .ensures)),
-    ))
-    (λ c κs.
-    let o = c .before .before .before .before .before .before .before .before .before .before .before .before .before in
-    let s = o .before .before in
-    let r = s .pre .1 in
-    let x = halved t o in (
-      omega (arith, s .pre .0, x .even, least r x),
-      room-low r x (c .before .before .before .split2 .ensures .size ∙ c .before .before .before .before .before .before .before .split .ensures .size ∙ c .before .before .before .before .before .before .before .before .before .before .before .add .ensures .size)
-          (blank-low (s .args .rows) (s .args .lines / 2) _ _ (s .args .a) (s .args .out) (s .args .free) _ refl refl (fields r x) (blank-both r x)
-          (c .before .before .before .before .before .before .before .before .before .before .before .add .ensures) (c .before .before .before .before .before .before .before .split .ensures) (c .before .before .before .split2 .ensures)),
-    ))
-    (λ c κs.
-    let o = c .before .before .before .before .before .before .before .before .before .before .before .before .before .before .before .before .before in
-    let s = o .before .before in
-    let r = s .pre .1 in
-    let x = halved t o in
-    join-room r x (c .before .before .before .split3 .ensures .size ∙ c .before .before .before .before .before .before .before .split2 .ensures .size ∙ c .before .before .before .before .before .before .before .before .before .before .before .split .ensures .size ∙ c .before .before .before .before .before .before .before .before .before .before .before .before .before .before .before .add .ensures .size))
-    (λ c. c .before .before .join .ensures .size ∙ c .before .before .before .before .before .before .split3 .ensures .size ∙ c .before .before .before .before .before .before .before .before .before .before .split2 .ensures .size ∙ c .before .before .before .before .before .before .before .before .before .before .before .before .before .before .split .ensures .size ∙ c .before .before .before .before .before .before .before .before .before .before .before .before .before .before .before .before .before .before .add .ensures .size)
     (λ c.
-    let o = c .before .before .before .before .before .before .before .before .before .before .before .before .before .before .before .before .before .before .before .before in
+    let o = c .before in
+    let r = o .before .before .pre .1 in
+    omega (arith, room-left r (halved t o) refl, fields r (halved t o)))
+    (λ c κs. sum-room (c .before .before .before .pre .1) (halved t (c .before)) refl)
+    (λ c.
+    let o = c .before .before .before .before .before in
+    let r = o .before .before .pre .1 in
+    omega (arith, room-left r (halved t o) refl, fields r (halved t o)))
+    (λ c.
+    let o = c .before .before .before .before .before in
+    let r = o .before .before .pre .1 in
+    omega (arith, room-left r (halved t o) refl, fields r (halved t o)))
+    (λ c.
+    let o = c .before .before .before .before .before in
+    let r = o .before .before .pre .1 in
+    omega (arith, room-left r (halved t o) refl, fields r (halved t o)))
+    (λ c κs.
+    let a = c .before .before .before in
+    let o = a .before .before in
+    let s = o .before .before in
+    let r = s .pre .1 in
+    let x = halved t o in (
+      omega (arith, s .pre .0, x .even, least r x),
+      room-high r x (a .add .ensures .size) (blank-high (s .args .rows) (s .args .lines / 2) _ _ (s .args .a) (s .args .out) (s .args .free) _ refl refl (fields r x) (blank-both r x)
+          (a .add .ensures)),
+    ))
+    (λ c κs.
+    let h = c .before .before .before in
+    let a = h .before .before .before .before in
+    let o = a .before .before in
+    let s = o .before .before in
+    let r = s .pre .1 in
+    let x = halved t o in (
+      omega (arith, s .pre .0, x .even, least r x),
+      room-mid r x (h .split .ensures .size ∙ a .add .ensures .size)
+          (blank-mid (s .args .rows) (s .args .lines / 2) _ _ (s .args .a) (s .args .out) (s .args .free) _ refl refl (fields r x) (blank-both r x)
+          (a .add .ensures) (h .split .ensures)),
+    ))
+    (λ c κs.
+    let m = c .before .before .before in
+    let h = m .before .before .before .before in
+    let a = h .before .before .before .before in
+    let o = a .before .before in
+    let s = o .before .before in
+    let r = s .pre .1 in
+    let x = halved t o in (
+      omega (arith, s .pre .0, x .even, least r x),
+      room-low r x (m .split2 .ensures .size ∙ h .split .ensures .size ∙ a .add .ensures .size)
+          (blank-low (s .args .rows) (s .args .lines / 2) _ _ (s .args .a) (s .args .out) (s .args .free) _ refl refl (fields r x) (blank-both r x)
+          (a .add .ensures) (h .split .ensures) (m .split2 .ensures)),
+    ))
+    (λ c κs.
+    let l = c .before .before .before in
+    let m = l .before .before .before .before in
+    let h = m .before .before .before .before in
+    let a = h .before .before .before .before in
+    let o = a .before .before in
+    join-room (o .before .before .pre .1) (halved t o)
+    (l .split3 .ensures .size ∙ m .split2 .ensures .size ∙ h .split .ensures .size ∙ a .add .ensures .size))
+    (λ c.
+    let j = c .before .before in
+    let l = j .before .before .before .before in
+    let m = l .before .before .before .before in
+    let h = m .before .before .before .before in
+    let a = h .before .before .before .before in
+    j .join .ensures .size ∙ l .split3 .ensures .size ∙ m .split2 .ensures .size ∙ h .split .ensures .size ∙ a .add .ensures .size)
+    (λ c.
+    let j = c .before .before in
+    let l = j .before .before .before .before in
+    let m = l .before .before .before .before in
+    let h = m .before .before .before .before in
+    let a = h .before .before .before .before in
+    let o = a .before .before in
     let s = o .before .before in
     let r = s .pre .1 in
     let x = halved t o in
     rw (← x .even) at (level (s .args .rows) (s .args .lines / 2) _ _ (s .args .a) (s .args .out) (s .args .free) _ refl refl (fields r x) (blank-both r x)
-    (c .before .before .before .before .before .before .before .before .before .before .before .before .before .before .before .before .before .before .add .ensures) (c .before .before .before .before .before .before .before .before .before .before .before .before .before .before .split .ensures) (c .before .before .before .before .before .before .before .before .before .before .split2 .ensures) (c .before .before .before .before .before .before .split3 .ensures) (c .before .before .join .ensures)))
+    (a .add .ensures) (h .split .ensures) (m .split2 .ensures) (l .split3 .ensures) (j .join .ensures)))

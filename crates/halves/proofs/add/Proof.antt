@@ -11,16 +11,22 @@ use Rattle.halves.proofs.add.Statement.{statement}
 use Rattle.halves.proofs.add.Tie as tie
 
 abbrev Inv-loop : tie.InvT-loop
-Inv-loop work₀ x y at m i₀ work i = ((i ≤ m) × (i % 24 ≡ 0)) × Put at i (λ (k : ℕ). (getD work₀ (x + k) 0 + getD work₀ (y + k) 0) % 65536) work₀ work
+Inv-loop work₀ x y at m i₀ work i =
+    ((i ≤ m) × (i % 24 ≡ 0)) × Put at i (λ (k : ℕ). (getD work₀ (x + k) 0 + getD work₀ (y + k) 0) % 65536) work₀ work
 
 abbrev μ-loop : tie.MeasureT-loop
 μ-loop work₀ x y at m i₀ work i = m - i
 
 loop-again : tie.Need-loop-again Inv-loop μ-loop
 loop-again c =
-    let d = c .before .before .before .before .before .before .before .before in
-    let x = d .before .before .args in
-    (omega (arith, d .before .before .pre .whole), sums-next (x .x) (x .y) (omega (arith, d .before .before .pre)) (omega (arith, d .before .before .pre)) (d .loop .inv .1) (c .before .before .before .before .before .sum .ensures) (c .before .before .put .ensures))
+    let u = c .before .before in
+    let r = u .before .before .before in
+    let d = r .before .before .before in
+    let s = d .before .before in
+    let p = s .pre in (
+      omega (arith, p .whole),
+      sums-next (s .args .x) (s .args .y) (omega (arith, p)) (omega (arith, p)) (d .loop .inv .1) (r .sum .ensures) (u .put .ensures),
+    )
 
 pub add-spec : {M : Type 1} → statement M
 add-spec =

@@ -1,10 +1,10 @@
 -- `halves::join` meets its contract: sixteen places of each quarter a turn.
 use Prim.Native.Nat.{_≤_, _+_, _-_, _%_}
-use mathlib.Core.Path.{_≡_}
+use mathlib.Core.Path.{_≡_, refl}
 use native.Mathlib.Omega.{arith}
 use lib.ListN.{length, length-take, length-drop}
 use Rattle.halves.specs.Rooms.{Joined}
-use Rattle.lines.specs.Laws.Put.{part-at, put-to}
+use Rattle.lines.specs.Laws.Put.{put-part}
 use Rattle.halves.specs.Laws.Join.{joined-none, joined-turn}
 use Rattle.halves.proofs.join.Statement.{statement}
 use Rattle.halves.proofs.join.Tie as tie
@@ -20,7 +20,8 @@ turn :
     (c : tie.In-loop Inv-loop μ-loop) →
     let x = c .before .before .before .args in
     let n = c .before .loop .n in
-    (n + 16 ≤ x .q) × ((x .out + n + x .q + x .q + x .q + 16 ≤ length (c .before .loop .work)) × (x .low + n + x .q + 16 ≤ length (c .before .loop .work)))
+    let size = length (c .before .loop .work) in
+    (n + 16 ≤ x .q) × ((x .out + n + x .q + x .q + x .q + 16 ≤ size) × (x .low + n + x .q + 16 ≤ size))
 turn c =
     let p = c .before .before .before .pre in
     let l = c .before .loop .inv .1 .size in
@@ -29,18 +30,20 @@ turn c =
 
 loop-again : tie.Need-loop-again Inv-loop μ-loop
 loop-again c =
-    let l = c .before .before .before .before .before .before .before .before .before .before .before .before .before .before .before .before .before .before .before .before in
+    let third = c .before .before in
+    let second = third .before .before .before .before .before .before in
+    let first = second .before .before .before .before .before .before in
+    let r = first .before .before .before .before in
+    let l = r .before .before in
     let d = l .before in
-    let s = d .before .before in
-    let r = c .before .before .before .before .before .before .before .before .before .before .before .before .before .before .before .before .before .before .quarters in
+    let x = r .quarters in
+    let s = x .ensures .size in
     let t = turn l in (
       omega (arith, t),
-      joined-turn (r .result) _ _ _ (t .0) (s .pre .apart) (d .loop .inv .1) (r .ensures)
-          (put-to (simp (length-take, length-drop) (omega (arith, r .ensures .size))) (c .before .before .before .before .before .before .before .before .before .before .before .before .before .before .put .ensures))
-          (put-to (simp (length-take, length-drop) (omega (arith, r .ensures .size))) (c .before .before .before .before .before .before .before .before .put2 .ensures))
-          (put-to (simp (length-take, length-drop) (omega (arith, r .ensures .size))) (c .before .before .put3 .ensures))
-          (λ t h. part-at 0 16 (r .result) (omega arith) (omega arith)) (λ t h. part-at 16 32 (r .result) (omega arith) (omega arith))
-          (λ t h. part-at 32 48 (r .result) (omega arith) (omega arith)),
+      joined-turn (x .result) (t .0) (d .before .before .pre .apart) (d .loop .inv .1) (x .ensures)
+          (put-part 0 16 (x .result) (omega (arith, s)) refl (first .put .ensures))
+          (put-part 16 32 (x .result) (omega (arith, s)) refl (second .put2 .ensures))
+          (put-part 32 48 (x .result) (omega (arith, s)) refl (third .put3 .ensures)),
     )
 
 pub join-spec : {M : Type 1} → statement M
@@ -61,15 +64,28 @@ join-spec =
     (λ c. omega arith)
     (λ c. omega arith)
     (λ c. omega (arith, turn (c .before .before .before .before .before .before .before .before .before .before .before)))
-    (λ c κs. simp (length-take, length-drop) (omega (arith, turn (c .before .before .before .before .before .before .before .before .before .before .before), c .before .before .before .before .before .put .ensures .size)))
+    (λ c κs.
+    let u = c .before .before .before .before .before in
+    simp (length-take, length-drop) (omega (arith, turn (u .before .before .before .before .before .before), u .put .ensures .size)))
     (λ c. omega arith)
     (λ c. omega arith)
     (λ c. omega arith)
-    (λ c. omega (arith, turn (c .before .before .before .before .before .before .before .before .before .before .before .before .before .before .before .before .before)))
-    (λ c. omega (arith, turn (c .before .before .before .before .before .before .before .before .before .before .before .before .before .before .before .before .before)))
-    (λ c κs. simp (length-take, length-drop) (omega (arith, turn (c .before .before .before .before .before .before .before .before .before .before .before .before .before .before .before .before .before), c .before .before .before .before .before .before .before .before .before .before .before .put .ensures .size, c .before .before .before .before .before .put2 .ensures .size)))
-    (λ c. omega (arith, turn (c .before .before .before .before .before .before .before .before .before .before .before .before .before .before .before .before .before .before .before .before)))
-    (λ c. omega (arith, turn (c .before .before .before .before .before .before .before .before .before .before .before .before .before .before .before .before .before .before .before .before)))
+    (λ c.
+    let l = c .before .before .before .before .before .before .before .before .before .before .before .before .before .before .before .before .before in
+    omega (arith, turn l))
+    (λ c.
+    let l = c .before .before .before .before .before .before .before .before .before .before .before .before .before .before .before .before .before in
+    omega (arith, turn l))
+    (λ c κs.
+    let v = c .before .before .before .before .before in
+    let u = v .before .before .before .before .before .before in
+    simp (length-take, length-drop) (omega (arith, turn (u .before .before .before .before .before .before), u .put .ensures .size, v .put2 .ensures .size)))
+    (λ c.
+    let l = c .before .before .before .before .before .before .before .before .before .before .before .before .before .before .before .before .before .before .before .before in
+    omega (arith, turn l))
+    (λ c.
+    let l = c .before .before .before .before .before .before .before .before .before .before .before .before .before .before .before .before .before .before .before .before in
+    omega (arith, turn l))
     loop-again
     (λ c. c .before .loop .inv .1 .size)
     (λ c.

@@ -55,10 +55,14 @@ less-order l h m h′ =
 -- what the wrapping differences and sums give
 module _ (l h m l′ x y : ℕ) {r : ℕ} (ex : (x + h) % 65536 ≡ l) (ey : (y + l′) % 65536 ≡ m) where
   pub second-one : r ≡ (x + y) % 65536 → Same 65536 (pos r) (pos l +ℤ (pos m -ℤ pos l′ -ℤ pos h))
-  second-one e = same-trans (same-plus x y e) (same-trans (same-add (same-minus l h ex) (same-minus m l′ ey)) (same-eq (sum-order (pos l) (pos h) (pos m) (pos l′))))
+  second-one e =
+      same-trans (same-plus x y e)
+      (same-trans (same-add (same-minus l h ex) (same-minus m l′ ey)) (same-eq (sum-order (pos l) (pos h) (pos m) (pos l′))))
 
   pub third-one : (r + x) % 65536 ≡ y → Same 65536 (pos r) (pos h +ℤ (pos m -ℤ pos l -ℤ pos l′))
-  third-one e = same-trans (same-minus y x e) (same-trans (same-add (same-minus m l′ ey) (same-neg (same-minus l h ex))) (same-eq (less-order (pos l) (pos h) (pos m) (pos l′))))
+  third-one e =
+      same-trans (same-minus y x e)
+      (same-trans (same-add (same-minus m l′ ey) (same-neg (same-minus l h ex))) (same-eq (less-order (pos l) (pos h) (pos m) (pos l′))))
 
 module _ {out low q : ℕ} {w : List ℕ} where
   pub quarters-none : {r : List ℕ} → length r ≡ 48 → Quarters out low q w 0 r
@@ -114,10 +118,9 @@ joined-none = record {
   above = λ p h. refl;
 }
 
-module _ {out low q n : ℕ} {w w′ w1 w2 w3 : List ℕ} (r : List ℕ) (f g k : ℕ → ℕ) (hn : n + 16 ≤ q) (apart : out + q + q + q + q ≤ low)
-    (h : Joined out low q n w w′) (x : Quarters (out + n) (low + n) q w′ 16 r) (s1 : Put (out + n) 16 f w′ w1) (s2 : Put (out + n + q) 16 g w1 w2)
-    (s3 : Put (out + n + q + q) 16 k w2 w3) (ef : (t : ℕ) → t < 16 → f t ≡ getD r t 0) (eg : (t : ℕ) → t < 16 → g t ≡ getD r (t + 16) 0)
-    (ek : (t : ℕ) → t < 16 → k t ≡ getD r (t + 32) 0) where
+module _ {out low q n : ℕ} {w w′ w1 w2 w3 : List ℕ} (r : List ℕ) (hn : n + 16 ≤ q) (apart : out + q + q + q + q ≤ low)
+    (h : Joined out low q n w w′) (x : Quarters (out + n) (low + n) q w′ 16 r) (s1 : Put (out + n) 16 (λ (k : ℕ). getD r (0 + k) 0) w′ w1)
+    (s2 : Put (out + n + q) 16 (λ (k : ℕ). getD r (16 + k) 0) w1 w2) (s3 : Put (out + n + q + q) 16 (λ (k : ℕ). getD r (32 + k) 0) w2 w3) where
   -- what is still as it was when the turn began, and before all turns
   old-at : (i j c t : ℕ) → i ≡ out + c + t → j ≡ out + c + t → n ≤ t → t < q → (c ≡ 0) ⊎ ((c ≡ q) ⊎ (c ≡ q + q)) → reads w′ i ≡ reads w j
   old-at i j c t ei ej l m d = rw (ei, ej) (ap pos (h .left c t l m d))
@@ -148,32 +151,40 @@ module _ {out low q n : ℕ} {w w′ w1 w2 w3 : List ℕ} (r : List ℕ) (f g k 
   one-at : (t : ℕ) → Dec (t < n) → t < n + 16 → getD w3 (out + t) 0 ≡ getD w (low + t) 0
   one-at t (yes l) m = s3 .below (out + t) (omega arith) ∙ s2 .below (out + t) (omega arith) ∙ s1 .below (out + t) (omega arith) ∙ h .one t l
   one-at t (no l) m =
-      let d : out + t ≡ out + n + (t - n) = omega arith in
-      let e : low + n + (t - n) ≡ low + t = omega arith in
-      rw (d, s3 .below (out + n + (t - n)) (omega arith), s2 .below (out + n + (t - n)) (omega arith), s1 .value (t - n) (omega arith), ef (t - n) (omega arith), x .one (t - n) (omega arith), e)
+      let i = t - n in
+      let d : out + t ≡ out + n + i = omega arith in
+      let e : low + n + i ≡ low + t = omega arith in
+      let c : 0 + i ≡ i = omega arith in
+      rw (d, s3 .below (out + n + i) (omega arith), s2 .below (out + n + i) (omega arith), s1 .value i (omega arith), c, x .one i (omega arith), e)
       (h .above (low + t) (omega arith))
 
   two-at : (t : ℕ) → Dec (t < n) → t < n + 16 → Same 65536 (reads w3 (out + q + t)) (second out low q w t)
-  two-at t (yes l) m = rw (s3 .below (out + q + t) (omega arith), s2 .below (out + q + t) (omega arith), s1 .above (out + q + t) (omega arith)) (h .two t l)
+  two-at t (yes l) m =
+      let p = out + q + t in
+      rw (s3 .below p (omega arith), s2 .below p (omega arith), s1 .above p (omega arith)) (h .two t l)
   two-at t (no l) m =
-      let d : out + q + t ≡ out + n + q + (t - n) = omega arith in
-      let e : n + (t - n) ≡ t = omega arith in
-      rw (ap (λ (j : ℕ). getD w3 j 0) d ∙ s3 .below (out + n + q + (t - n)) (omega arith) ∙ s2 .value (t - n) (omega arith) ∙ eg (t - n) (omega arith))
-      (rw (second-at (t - n) (omega arith), e) at (x .two (t - n) (omega arith)))
+      let i = t - n in
+      let d : out + q + t ≡ out + n + q + i = omega arith in
+      let e : n + i ≡ t = omega arith in
+      let c : 16 + i ≡ i + 16 = omega arith in
+      rw (ap (λ (j : ℕ). getD w3 j 0) d ∙ s3 .below (out + n + q + i) (omega arith) ∙ s2 .value i (omega arith), c)
+      (rw (second-at i (omega arith), e) at (x .two i (omega arith)))
 
   three-at : (t : ℕ) → Dec (t < n) → t < n + 16 → Same 65536 (reads w3 (out + q + q + t)) (third out low q w t)
   three-at t (yes l) m =
-      rw (s3 .below (out + q + q + t) (omega arith), s2 .above (out + q + q + t) (omega arith), s1 .above (out + q + q + t) (omega arith)) (h .three t l)
+      let p = out + q + q + t in
+      rw (s3 .below p (omega arith), s2 .above p (omega arith), s1 .above p (omega arith)) (h .three t l)
   three-at t (no l) m =
-      let d : out + q + q + t ≡ out + n + q + q + (t - n) = omega arith in
-      let e : n + (t - n) ≡ t = omega arith in
-      rw (ap (λ (j : ℕ). getD w3 j 0) d ∙ s3 .value (t - n) (omega arith) ∙ ek (t - n) (omega arith))
-      (rw (third-at (t - n) (omega arith), e) at (x .three (t - n) (omega arith)))
+      let i = t - n in
+      let d : out + q + q + t ≡ out + n + q + q + i = omega arith in
+      let e : n + i ≡ t = omega arith in
+      let c : 32 + i ≡ i + 32 = omega arith in
+      rw (ap (λ (j : ℕ). getD w3 j 0) d ∙ s3 .value i (omega arith), c) (rw (third-at i (omega arith), e) at (x .three i (omega arith)))
 
   left-at : (c t : ℕ) → n + 16 ≤ t → t < q → (c ≡ 0) ⊎ ((c ≡ q) ⊎ (c ≡ q + q)) → getD w3 (out + c + t) 0 ≡ getD w′ (out + c + t) 0
-  left-at c t l m (inl d) = s3 .below (out + c + t) (omega arith) ∙ s2 .below (out + c + t) (omega arith) ∙ s1 .above (out + c + t) (omega arith)
-  left-at c t l m (inr (inl d)) = s3 .below (out + c + t) (omega arith) ∙ s2 .above (out + c + t) (omega arith) ∙ s1 .above (out + c + t) (omega arith)
-  left-at c t l m (inr (inr d)) = s3 .above (out + c + t) (omega arith) ∙ s2 .above (out + c + t) (omega arith) ∙ s1 .above (out + c + t) (omega arith)
+  left-at c t l m (inl d) = let p = out + c + t in s3 .below p (omega arith) ∙ s2 .below p (omega arith) ∙ s1 .above p (omega arith)
+  left-at c t l m (inr (inl d)) = let p = out + c + t in s3 .below p (omega arith) ∙ s2 .above p (omega arith) ∙ s1 .above p (omega arith)
+  left-at c t l m (inr (inr d)) = let p = out + c + t in s3 .above p (omega arith) ∙ s2 .above p (omega arith) ∙ s1 .above p (omega arith)
 
   pub joined-turn : Joined out low q (n + 16) w w3
   joined-turn = record {

@@ -45,7 +45,8 @@ module _ (rows c q m a out free rest : ℕ) (eq : q ≡ 16 * (rows * c)) (em : m
 
   -- the sums of the halves, as operands
   sums-at :
-      (i : ℕ) → i ≤ rows → (k : ℕ) → Dec (k < 16 * c) → Same 65536 (operand rows c w1 free i k) (operand rows c w0 a i k +ℤ operand rows c w0 (a + m) i k)
+      (i : ℕ) → i ≤ rows → (k : ℕ) → Dec (k < 16 * c) →
+      Same 65536 (operand rows c w1 free i k) (operand rows c w0 a i k +ℤ operand rows c w0 (a + m) i k)
   sums-at i hi k (yes h) =
       rw (operand-at rows c w1 free i k h, operand-at rows c w0 a i k h, operand-at rows c w0 (a + m) i k h, to free, to a, to (a + m))
       (same-plus _ _ (s1 .value (24 * i + 8 + place (24 * (rows + 1)) k) (omega (arith, operand-in rows c i k hi h))))
@@ -221,18 +222,19 @@ module _ (rows c q m a out free rest : ℕ) (eq : q ≡ 16 * (rows * c)) (em : m
               let n = k - (16 * c + 16 * c) in
               let b : k ≡ 16 * c + 16 * c + n = omega arith in
               let x : out + 16 * i + place (16 * rows) (16 * c + 16 * c + n) ≡ out + q + q + (16 * i + place (16 * rows) n) =
-              omega (arith, product-at rows (c + c) out i n, ap (place (16 * rows)) (let y : 16 * (c + c) + n ≡ 16 * c + 16 * c + n = omega arith in y)) in
+              (let y : 16 * (c + c) + n ≡ 16 * c + 16 * c + n = omega arith in omega (arith, product-at rows (c + c) out i n, ap (place (16 * rows)) y)) in
               rw (b, x) (quarter-third n (omega arith))
           joined-at k hk (no l) (no d) (no e) =
               let n = k - (16 * c + 16 * c + 16 * c) in
               let b : k ≡ 16 * c + 16 * c + 16 * c + n = omega arith in
               let x : out + 16 * i + place (16 * rows) (16 * c + 16 * c + 16 * c + n) ≡ out + q + q + q + (16 * i + place (16 * rows) n) =
-              omega (arith, product-at rows (c + c + c) out i n, ap (place (16 * rows)) (let y : 16 * (c + c + c) + n ≡ 16 * c + 16 * c + 16 * c + n = omega arith in y)) in
+              (let y : 16 * (c + c + c) + n ≡ 16 * c + 16 * c + 16 * c + n = omega arith in omega (arith, product-at rows (c + c + c) out i n, ap (place (16 * rows)) y)) in
               rw (b, x) (quarter-last n (omega arith))
 
           level-value :
               (k : ℕ) → k < 16 * (2 * (c + c)) →
-              Same 65536 (reads w5 (out + 16 * i + place (16 * rows) k)) (split 16 (suc j) (operand rows (c + c) w0 a rows) (operand rows (c + c) w0 a i) k)
+              Same 65536 (reads w5 (out + 16 * i + place (16 * rows) k))
+              (split 16 (suc j) (operand rows (c + c) w0 a rows) (operand rows (c + c) w0 a i) k)
           unfolding L M H f g
           level-value k hk =
               rw (split-level c j ec (operand rows (c + c) w0 a rows) (operand rows (c + c) w0 a i) k)
@@ -248,6 +250,10 @@ module _ (rows c q m a out free rest : ℕ) (eq : q ≡ 16 * (rows * c)) (em : m
         level = record {
           size = s5 .size ∙ s4 .size ∙ s3 .size ∙ s2 .size ∙ s1 .size;
           value = value-of;
-          below = λ p h. s5 .below p h ∙ s4 .below p (omega (arith, r .product)) ∙ s3 .below p h ∙ s2 .below p (omega arith) ∙ s1 .below p (omega (arith, r .product));
-          above = λ p h l. s5 .above p (omega arith) ∙ s4 .below p l ∙ s3 .above p (omega arith) (omega (arith, r)) ∙ s2 .above p (omega arith) (omega (arith, r)) ∙ s1 .below p l;
+          below = λ p h.
+              let l : p < free = omega (arith, r .product) in
+              s5 .below p h ∙ s4 .below p l ∙ s3 .below p h ∙ s2 .below p (omega arith) ∙ s1 .below p l;
+          above = λ p h l.
+              let e : p < rest = omega (arith, r .sums) in
+              s5 .above p (omega arith) ∙ s4 .below p l ∙ s3 .above p (omega arith) e ∙ s2 .above p (omega arith) e ∙ s1 .below p l;
         }

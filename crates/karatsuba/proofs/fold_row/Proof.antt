@@ -1,10 +1,8 @@
 -- `karatsuba::fold_row` meets its contract: sixteen places a turn.
 use Prim.Native.Nat.{_≤_, _*_, _-_}
-use mathlib.Core.Path.{_≡_, _∙_, ap}
+use mathlib.Core.Path.{_≡_}
 use native.Mathlib.Nat.{mul-le-mul-left}
 use native.Mathlib.Omega.{arith}
-use lib.ListN.{length}
-use Rattle.lists.specs.Laws.Lists.{length-from}
 use Rattle.karatsuba.specs.Rooms.{foldRow}
 use Rattle.lines.specs.Rooms.{Put}
 use Rattle.lines.specs.Laws.Put.{put-none, put-to, put-all}
@@ -40,10 +38,19 @@ fold-row-spec =
     record { first = omega (arith, line (c .before), p .0); second = omega (arith, line (c .before), p .0); third = omega (arith, l, p .1) })
     (λ c. omega arith)
     (λ c. omega arith)
-    (λ c κs. omega (arith, ap length (c .before .before .folded .ensures) ∙ length-from 16 _, c .before .before .before .before .before .loop .inv .1 .size, c .before .before .before .before .before .before .before .before .pre .1))
+    (λ c κs.
+    let d = c .before .before .before .before .before in
+    omega (arith, d .loop .inv .1 .size, d .before .before .before .pre .1))
     (λ c. omega arith)
     (λ c. omega arith)
-    (λ c. let x = c .before .before .before .before .before .before .before .before .before .before .before .args in (omega arith, fold-next (x .work .now) (x .x) (x .s) (c .before .before .before .before .before .before .before .before .loop .g) (c .before .before .before .before .before .before .before .before .loop .inv .1) (c .before .before .before .before .before .folded .ensures) (c .before .before .put .ensures)))
+    (λ c.
+    let u = c .before .before in
+    let r = u .before .before .before in
+    let d = r .before .before .before in
+    let x = d .before .before .before .args in (
+      omega arith,
+      fold-next (x .work .now) (x .x) (x .s) (d .loop .g) (d .loop .inv .1) (r .folded .ensures) (u .put .ensures),
+    ))
     (λ c. omega arith)
     (λ c.
     let e : 16 * c .before .loop .g ≡ 256 = omega arith in

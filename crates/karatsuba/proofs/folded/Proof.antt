@@ -37,5 +37,7 @@ folded-spec =
     (λ c. omega arith)
     (λ c. omega arith)
     (λ c. omega arith)
-    (λ c. fill-more (omega arith) (c .before .before .before .before .before .before .loop .inv) (fold-one _ _ _ _ (c .before .wrapping-sub-u16 .ensures) (c .wrapping-add-u16 .ensures)))
+    (λ c.
+    let d = c .before .before .before .before .before .before in
+    fill-more (omega arith) (d .loop .inv) (fold-one _ _ _ _ (c .before .wrapping-sub-u16 .ensures) (c .wrapping-add-u16 .ensures)))
     (λ c. fill-all (omega arith) (c .before .loop .inv)))

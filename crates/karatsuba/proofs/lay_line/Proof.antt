@@ -38,23 +38,30 @@ lay-line-spec =
     (λ c. omega arith)
     (λ c. omega arith)
     (λ c. omega arith)
-    (λ c κs. omega (arith, c .before .before .line .ensures .size, c .before .before .before .before .loop .inv .1 .size, c .before .before .before .loop-test .taken, c .before .before .before .before .before .before .before .before .pre .left))
+    (λ c κs.
+    let d = c .before .before .before .before in
+    omega (arith, c .before .before .line .ensures .size, d .loop .inv .1 .size, c .before .before .before .loop-test .taken, d .before .before .before .before .pre .left))
     (λ c. omega arith)
     (λ c. omega arith)
     (λ c.
-    let d = c .before .before .before .before .before .before .before in
+    let u = c .before .before in
+    let r = u .before .before .before in
+    let l = r .before in
+    let d = l .before in
     let s = d .before .before .before .before in
-    let x = s .args in (
+    let x = s .args in
+    let row = row-line (x .rows) (x .a .now) (x .start) (x .step) (x .b .now) (d .loop .i) (x .g) in (
       omega arith,
-      laid-more (d .loop .inv .1) (c .before .before .before .before .before .line .ensures) (c .before .before .put .ensures)
-          (λ t h. row-line (x .rows) (x .a .now) (x .start) (x .step) (x .b .now) (d .loop .i) (x .g) t (c .before .before .before .before .before .before .loop-test .taken) (s .pre .lines) h),
+      laid-more (d .loop .inv .1) (r .line .ensures) (u .put .ensures) (λ t h. row t (l .loop-test .taken) (s .pre .lines) h),
     ))
     (λ c. omega arith)
     (λ c κs. omega (arith, c .before .before .before .before .before .pre))
     (λ c. omega arith)
     (λ c. omega arith)
     (λ c. omega arith)
-    (λ c κs. omega (arith, c .before .before .line2 .ensures .size, c .before .before .before .before .loop .inv .1 .size, c .before .before .before .before .before .before .before .before .pre .left))
+    (λ c κs.
+    let d = c .before .before .before .before in
+    omega (arith, c .before .before .line2 .ensures .size, d .loop .inv .1 .size, d .before .before .before .before .pre .left))
     (λ c. omega arith)
     (λ c.
     let d = c .before .before .before .before .before .before .before in

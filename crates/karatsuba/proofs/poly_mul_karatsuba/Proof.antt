@@ -26,9 +26,12 @@ poly-mul-karatsuba-spec =
     (λ c κs. search mul-modulus)
     (λ c. search needs)
     (λ c.
-    let x = c .before .before .before .before .before .before .before .before .before .before .before .before .before .before .before .before .before .before .before .args in
-    let e = c .before .before .before .before .before .before .before .before .before .before .before .before .before .before .before .mul-answer .ensures in
-    let z = c .before .before .before .before .before .before .before .before .before .before .before .before .before .before .if1 .left in
-    let f = mul-factors (x .modulus) (x .a .now) (x .b .now) (x .product .now) e z in
-    mul-done (x .modulus) (x .a .now) (x .b .now) (x .product .now) e z
-    (single (x .a .now) (x .b .now) (f .first) (rw (f .room) at (c .before .before .before .before .before .before .before .before .before .before .before .before .clear .ensures)) (c .before .before .before .before .before .before .before .rows-add .ensures)) (c .before .before .reduce .ensures)))
+    let w = c .before .before in
+    let r = w .before .before .before .before .before in
+    let z = r .before .before .before .before .before in
+    let o = z .before .before in
+    let e = o .before .mul-answer .ensures in
+    let x = o .before .before .before .before .before .args in
+    let f = mul-factors (x .modulus) (x .a .now) (x .b .now) (x .product .now) e (o .if1 .left) in
+    mul-done (x .modulus) (x .a .now) (x .b .now) (x .product .now) e (o .if1 .left)
+    (single (x .a .now) (x .b .now) (f .first) (rw (f .room) at (z .clear .ensures)) (r .rows-add .ensures)) (w .reduce .ensures)))

@@ -12,11 +12,29 @@ rows-add-spec =
     (tie.spec
     (λ c. omega (arith, c .before .before .before .before .pre .most))
     (λ c. omega (arith, c .before .before .before .before .pre .most))
-    (λ c κs. let p = c .before .before .before .before .before .pre in record { factors = p .factors; factor = p .factor; left = omega (arith, p .space) })
+    (λ c κs.
+    let p = c .before .before .before .before .before .pre in
+    record { factors = p .factors; factor = p .factor; left = omega (arith, p .space) })
     (λ c. omega (arith, c .before .before .before .before .before .before .before .before .before .pre .most))
     (λ c. omega (arith, c .before .before .before .before .before .before .before .before .before .pre .most))
-    (λ c κs. let s = c .before .before .before .before .before .before .before .before .before in let x = s .args in rows-room (x .rows) (x .a .now) (x .start) (x .step) (x .b .now) (s .pre) (c .before .before .before .lay .ensures) refl)
-    (λ c κs. let s = c .before .before .before .before .before .before .before .before .before .before .before .before .before .before in (omega (arith, s .pre .space, c .before .before .before .before .split .ensures .size, c .before .before .before .before .before .before .before .before .lay .ensures .size), s .pre .room))
-    (λ c. c .before .before .before .before .before .before .before .split .ensures .size ∙ c .before .before .before .before .before .before .before .before .before .before .before .lay .ensures .size)
+    (λ c κs.
+    let l = c .before .before .before in
+    let s = l .before .before .before .before .before .before in
+    let x = s .args in
+    rows-room (x .rows) (x .a .now) (x .start) (x .step) (x .b .now) (s .pre) (l .lay .ensures) refl)
+    (λ c κs.
+    let h = c .before .before .before .before in
+    let l = h .before .before .before .before in
+    let p = l .before .before .before .before .before .before .pre in
+    (omega (arith, p .space, h .split .ensures .size, l .lay .ensures .size), p .room))
+    (λ c.
+    let h = c .before .before .before .before .before .before .before in
+    h .split .ensures .size ∙ h .before .before .before .before .lay .ensures .size)
     (λ c. search needs)
-    (λ c. let s = c .before .before .before .before .before .before .before .before .before .before .before .before .before .before .before .before .before in let x = s .args in rows-done (x .rows) (x .a .now) (x .start) (x .step) (x .b .now) (s .pre) (c .before .before .before .before .before .before .before .before .before .before .before .lay .ensures) refl _ (c .before .before .before .before .before .before .before .split .ensures) (c .before .before .fold .ensures)))
+    (λ c.
+    let h = c .before .before .before .before .before .before .before in
+    let l = h .before .before .before .before in
+    let s = l .before .before .before .before .before .before in
+    let x = s .args in
+    rows-done (x .rows) (x .a .now) (x .start) (x .step) (x .b .now) (s .pre) (l .lay .ensures) refl _ (h .split .ensures)
+    (c .before .before .fold .ensures)))

@@ -32,7 +32,8 @@ module _ {rows x free i : ℕ} {w w′ : List ℕ} (p b : List ℕ) (lp : length
       (rw (split-conv 16 4 (operand rows 16 w 0 rows) (operand rows 16 w 0 i) k)
       (conv-same _ _ _ _ (λ n. same-eq (eb n ∙ sym (at-nat b n))) (λ n. same-eq (ep n ∙ sym (at-nat p n))) k))
 
-  pub row-coef : (old : List ℕ) (k : ℕ) → k < 256 → foldRow w′ (x + 16 * i) (16 * rows) old k ≡ modℤ (at (nat old) k +ℤ coef 256 (nat p) (nat b) k) 65536
+  pub row-coef :
+      (old : List ℕ) (k : ℕ) → k < 256 → foldRow w′ (x + 16 * i) (16 * rows) old k ≡ modℤ (at (nat old) k +ℤ coef 256 (nat p) (nat b) k) 65536
   row-coef old k hk =
       mod-of 65536 (omega arith)
       (same-add (same-eq (sym (at-nat old k)))
@@ -62,13 +63,18 @@ module _ (rows : ℕ) (a : List ℕ) (start step : ℕ) (b : List ℕ) {work out
       new ≡ rowsAdded rows (λ i. poly a (start + step * i)) b old
   unfolding rowsAdded
   rows-done old h e =
-      e ∙ blocks-cong rows _ _ (λ i hi. from-cong 256 _ _ (λ k hk. row-coef (poly a (start + step * i)) b (long i hi) (r .factor) hi (row i hi) last h (poly old i) k hk))
+      e ∙ blocks-cong rows _ _ (λ i hi.
+      from-cong 256 _ _ (row-coef (poly a (start + step * i)) b (long i hi) (r .factor) hi (row i hi) last h (poly old i)))
     where
       long : (i : ℕ) → i < rows → length (poly a (start + step * i)) ≡ 256
       long i hi = simp (length-take, length-drop) (omega (arith, r .factors i hi))
 
       row : (i : ℕ) → i < rows → (k : ℕ) → operand rows 16 w1 0 i k ≡ reads (poly a (start + step * i)) k
-      row i hi k = rw (source-row rows a start step b i hi) at (laid-operand l i (omega arith) (ap length (source-row rows a start step b i hi) ∙ long i hi) k)
+      row i hi k =
+          let e = source-row rows a start step b i hi in
+          rw e at (laid-operand l i (omega arith) (ap length e ∙ long i hi) k)
 
       last : (k : ℕ) → operand rows 16 w1 0 rows k ≡ reads b k
-      last k = rw (source-last rows a start step b) at (laid-operand l rows (omega arith) (ap length (source-last rows a start step b) ∙ r .factor) k)
+      last k =
+          let e = source-last rows a start step b in
+          rw e at (laid-operand l rows (omega arith) (ap length e ∙ r .factor) k)

@@ -9,7 +9,10 @@ plain-spec =
     (tie.spec
     (λ c κs. let e : c .before .before .before .args .rows ≡ 1 = c .before .if1 .taken in rw e at (c .before .before .before .pre))
     (λ c. c .before .before .plain-one .ensures .size)
-    (λ c. let e : c .before .before .before .before .before .before .args .rows ≡ 1 = c .before .before .before .before .if1 .taken in rw (← e) at (c .before .before .plain-one .ensures))
+    (λ c.
+    let o = c .before .before .before .before in
+    let e : o .before .before .args .rows ≡ 1 = o .if1 .taken in
+    rw (← e) at (c .before .before .plain-one .ensures))
     (λ c κs. c .before .before .before .pre)
     (λ c. c .before .before .plain-rows .ensures .size)
     (λ c. c .before .before .plain-rows .ensures))

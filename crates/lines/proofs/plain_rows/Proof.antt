@@ -4,9 +4,9 @@ use mathlib.Core.List.{List}
 use mathlib.Core.Path.{_≡_, refl, _∙_, ap}
 use native.Mathlib.Omega.{arith}
 use lib.ListN.{length, getD, length-take, length-drop}
-use Rattle.lists.specs.Laws.Lists.{from-at, length-from}
+use Rattle.lists.specs.Laws.Lists.{from-at}
 use Rattle.lines.specs.Rooms.{Plain}
-use Rattle.lines.specs.Laws.Put.{part-at, put-to}
+use Rattle.lines.specs.Laws.Put.{part-at, put-part}
 use Rattle.lines.specs.Laws.Base.{row-value, plain-none, plain-row, plain-turn}
 use Rattle.lines.proofs.plain_rows.Statement.{statement}
 use Rattle.lines.proofs.plain_rows.Tie as tie
@@ -17,29 +17,45 @@ Inv-loop rows work₀ a out b i₀ work i = (i ≤ rows) × Plain rows i a out w
 abbrev μ-loop : tie.MeasureT-loop
 μ-loop rows work₀ a out b i₀ work i = rows - i
 
+-- in a turn row i and its products stand in the slice
+within :
+    (c : tie.In-loop Inv-loop μ-loop) →
+    let x = c .before .before .before .before .before .args in
+    let i = c .before .loop .i in
+    let size = length (c .before .loop .work) in
+    (x .a + 24 * i + 32 ≤ size) × (x .out + 16 * i + 16 * x .rows + 16 ≤ size)
+within c =
+    let p = c .before .before .before .before .before .pre in
+    let l = c .before .loop .inv .1 .size in
+    (omega (arith, p .operands, l), omega (arith, p .product, l))
+
 loop-again : tie.Need-loop-again Inv-loop μ-loop
 loop-again c =
-    let l = c .before .before .before .before .before .before .before .before .before .before .before .before .before .before .before .before .before .before .before .before .before .before in
+    let second = c .before .before in
+    let first = second .before .before .before .before .before .before in
+    let u = first .before .before .before .before in
+    let o = u .before .before .before .before .before in
+    let l = o .before .before .before .before .before in
     let hi = l .loop-test .taken in
     let d = l .before in
+    let p = d .loop .inv .1 in
     let s = d .before .before .before .before in
     let w = s .args .work .now in
     let a = s .args .a in
     let i = d .loop .i in
     let b = d .before .sixteen in
-    let r = c .before .before .before .before .before .before .before .before .before .before .before .before .upper in (
+    let r = u .upper in (
       omega (arith, hi),
-      plain-turn (r .result) _ _ hi (d .loop .inv .1)
-          (row-value (s .args .rows) a i w _ _ _ (s .pre .blank) hi
-          (simp (length-take, length-drop) (omega (arith, s .pre .operands, d .loop .inv .1 .size, hi)))
-          (λ t h. part-at (a + 24 * i) (a + 24 * i + 32) (d .loop .work) (omega arith) refl ∙ plain-row (s .pre .apart) (d .loop .inv .1) hi h)
-          (λ t h. part-at 0 8 (b .result) (omega arith) refl ∙ ap (λ (v : List ℕ). getD v (0 + t) 0) (b .ensures) ∙ from-at 16 _ 0 (0 + t) (omega arith))
-          (λ t h. part-at 8 16 (b .result) (omega arith) refl ∙ ap (λ (v : List ℕ). getD v (8 + t) 0) (b .ensures) ∙ from-at 16 _ 0 (8 + t) (omega arith))
-          (c .before .before .before .before .before .before .before .before .before .before .before .before .before .before .before .before .before .lower .ensures) (r .ensures))
-          refl refl
-          (put-to (simp (length-take, length-drop) (omega (arith, r .ensures .size))) (c .before .before .before .before .before .before .before .before .put .ensures))
-          (put-to (simp (length-take, length-drop) (omega (arith, r .ensures .size))) (c .before .before .put2 .ensures))
-          (λ t h. part-at 0 16 (r .result) (omega arith) (omega arith)) (λ t h. part-at 16 32 (r .result) (omega arith) refl),
+      plain-turn (r .result) hi p
+          (row-value (s .args .rows) a i w _ _ _ (s .pre .blank) hi (simp (length-take, length-drop) (omega (arith, s .pre .operands, p .size, hi)))
+          (λ t h. part-at (a + 24 * i) (a + 24 * i + 32) (d .loop .work) (omega arith) refl ∙ plain-row (s .pre .apart) p hi h)
+          (λ t h.
+          part-at 0 8 (b .result) (omega arith) refl ∙ ap (λ (v : List ℕ). getD v (0 + t) 0) (b .ensures) ∙ from-at 16 _ 0 (0 + t) (omega arith))
+          (λ t h.
+          part-at 8 16 (b .result) (omega arith) refl ∙ ap (λ (v : List ℕ). getD v (8 + t) 0) (b .ensures) ∙ from-at 16 _ 0 (8 + t) (omega arith))
+          (o .lower .ensures) (r .ensures))
+          refl refl (put-part 0 16 (r .result) (omega (arith, r .ensures .size)) refl (first .put .ensures))
+          (put-part 16 32 (r .result) (omega (arith, r .ensures .size)) refl (second .put2 .ensures)),
     )
 
 pub plain-rows-spec : {M : Type 1} → statement M
@@ -63,7 +79,9 @@ plain-rows-spec =
     (λ c. omega arith)
     (λ c. omega arith)
     (λ c. omega arith)
-    (λ c κs. record { eight = simp (length-take, length-drop) (omega (arith, ap length (c .before .before .before .before .before .before .sixteen .ensures) ∙ length-from 16 _)); whole = simp (length-take, length-drop) (omega (arith, c .before .before .before .before .before .before .before .before .before .pre .operands, c .before .before .before .before .before .loop .inv .1 .size, c .before .before .before .before .loop-test .taken)) })
+    (λ c κs.
+    let w = within (c .before .before .before .before) in
+    record { eight = simp (length-take, length-drop) (omega (arith, w)); whole = simp (length-take, length-drop) (omega (arith, w)) })
     (λ c. omega arith)
     (λ c. omega arith)
     (λ c. omega arith)
@@ -71,19 +89,24 @@ plain-rows-spec =
     (λ c. omega arith)
     (λ c. omega arith)
     (λ c. omega arith)
-    (λ c κs. record { eight = simp (length-take, length-drop) (omega (arith, ap length (c .before .before .before .before .before .before .before .before .before .before .before .sixteen .ensures) ∙ length-from 16 _)); whole = simp (length-take, length-drop) (omega (arith, c .before .before .before .before .before .before .before .before .before .before .before .before .before .before .pre .operands, c .before .before .before .before .before .before .before .before .before .before .loop .inv .1 .size, c .before .before .before .before .before .before .before .before .before .loop-test .taken)) })
+    (λ c κs.
+    let w = within (c .before .before .before .before .before .before .before .before .before) in
+    record { eight = simp (length-take, length-drop) (omega (arith, w)); whole = simp (length-take, length-drop) (omega (arith, w)) })
     (λ c. omega arith)
     (λ c. omega arith)
     (λ c. omega arith)
     (λ c. omega arith)
     (λ c. omega arith)
-    (λ c κs. simp (length-take, length-drop) (omega (arith, c .before .before .before .before .before .before .before .before .before .before .before .before .before .before .before .before .before .before .pre .product, c .before .before .before .before .before .before .before .before .before .before .before .before .before .before .loop .inv .1 .size, c .before .before .before .before .before .before .before .before .before .before .before .before .before .loop-test .taken)))
+    (λ c κs. let w = within (c .before .before .before .before .before .before .before .before .before .before .before .before .before) in simp (length-take, length-drop) (omega (arith, w)))
     (λ c. omega arith)
     (λ c. omega arith)
     (λ c. omega arith)
     (λ c. omega arith)
     (λ c. omega arith)
-    (λ c κs. simp (length-take, length-drop) (omega (arith, c .before .before .before .before .before .before .before .before .before .before .before .before .before .before .before .before .before .before .before .before .before .before .before .before .pre .product, c .before .before .before .before .before .before .before .before .before .before .before .before .before .before .before .before .before .before .before .before .loop .inv .1 .size, c .before .before .before .before .before .before .before .before .before .before .before .before .before .before .before .before .before .before .before .loop-test .taken, c .before .before .before .before .before .put .ensures .size)))
+    (λ c κs.
+    let u = c .before .before .before .before .before in
+    let w = within (u .before .before .before .before .before .before .before .before .before .before .before .before .before .before) in
+    simp (length-take, length-drop) (omega (arith, w, u .put .ensures .size)))
     (λ c. omega arith)
     (λ c. omega arith)
     loop-again

@@ -3,7 +3,7 @@ use Prim.Native.Nat.{ℕ, _≤_, _+_, _-_}
 use mathlib.Core.Path.{_≡_, refl}
 use native.Mathlib.Omega.{arith}
 use borrow.Author.Needs.{needs}
-use lib.IntN.{pos, _*ℤ_}
+use lib.IntN.{ℤ, pos, _*ℤ_}
 use Rattle.algebra.specs.Integers.{sum, Same}
 use Rattle.algebra.specs.Halves.{window}
 use Rattle.algebra.specs.Laws.Residues.{same-refl}
@@ -26,7 +26,8 @@ loop-again : tie.Need-loop-again Inv-loop μ-loop
 loop-again c =
     let d = c .before .before .before .before .before in
     let x = d .before .before .before .args in
-    (omega arith, terms-more (λ i. reads (x .p .now) i *ℤ reads (x .row .now) (x .t + 8 - i)) (d .loop .i) _ _ (d .loop .inv .1) refl (c .before .times .ensures) (c .wrapping-add-u16 .ensures))
+    let f : ℕ → ℤ = λ i. reads (x .p .now) i *ℤ reads (x .row .now) (x .t + 8 - i) in
+    (omega arith, terms-more f (d .loop .i) _ _ (d .loop .inv .1) refl (c .before .times .ensures) (c .wrapping-add-u16 .ensures))
 
 returns : tie.Need-returns Inv-loop μ-loop
 unfolding window

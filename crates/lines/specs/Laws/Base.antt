@@ -135,11 +135,11 @@ module _ {rows a out : ℕ} {w : List ℕ} where
   plain-row {n} {i} {t} (inr l) h hi ht = h .above (a + 24 * i + t) (omega arith)
 
   pub plain-turn :
-      (r : List ℕ) {i x y : ℕ} {w′ w1 w2 : List ℕ} (f g : ℕ → ℕ) → i < rows → Plain rows i a out w w′ →
+      (r : List ℕ) {i x y : ℕ} {w′ w1 w2 : List ℕ} → i < rows → Plain rows i a out w w′ →
       ((t : ℕ) → t < 32 → Same 65536 (reads r t) (conv (operand rows 1 w a rows) (operand rows 1 w a i) t)) →
-      x ≡ out + 16 * i → y ≡ out + 16 * i + 16 * rows → Put x 16 f w′ w1 → Put y 16 g w1 w2 →
-      ((t : ℕ) → t < 16 → f t ≡ getD r t 0) → ((t : ℕ) → t < 16 → g t ≡ getD r (16 + t) 0) → Plain rows (i + 1) a out w w2
-  plain-turn r {i} {x} {y} {w′} {w1} {w2} f g hi h v ex ey s u ef eg = record {
+      x ≡ out + 16 * i → y ≡ out + 16 * i + 16 * rows → Put x 16 (λ (k : ℕ). getD r (0 + k) 0) w′ w1 →
+      Put y 16 (λ (k : ℕ). getD r (16 + k) 0) w1 w2 → Plain rows (i + 1) a out w w2
+  plain-turn r {i} {x} {y} {w′} {w1} {w2} hi h v ex ey s u = record {
     size = u .size ∙ s .size ∙ h .size;
     value = λ j k hj hk. place-of j k hk (decLt k 16) hj (decLt j i);
     below = λ p hp. u .below p (omega arith) ∙ s .below p (omega arith) ∙ h .below p hp;
@@ -155,17 +155,20 @@ module _ {rows a out : ℕ} {w : List ℕ} where
           (j k : ℕ) → k < 32 → Dec (k < 16) → j < i + 1 → Dec (j < i) →
           Same 65536 (reads w2 (out + 16 * j + place (16 * rows) k)) (conv (operand rows 1 w a rows) (operand rows 1 w a j) k)
       place-of j k hk (yes l) hj (yes m) =
-          let d : out + 16 * j + place (16 * rows) k < x = omega (arith, place-first (16 * rows) k l) in
-          rw (u .below (out + 16 * j + place (16 * rows) k) (omega arith), s .below (out + 16 * j + place (16 * rows) k) d) (h .value j k m hk)
+          let p = out + 16 * j + place (16 * rows) k in
+          let d : p < x = omega (arith, place-first (16 * rows) k l) in
+          rw (u .below p (omega arith), s .below p d) (h .value j k m hk)
       place-of j k hk (no l) hj (yes m) =
+          let p = out + 16 * j + place (16 * rows) k in
           let d = far k (omega arith) hk in
-          rw (u .below (out + 16 * j + place (16 * rows) k) (omega arith), s .above (out + 16 * j + place (16 * rows) k) (omega arith)) (h .value j k m hk)
+          rw (u .below p (omega arith), s .above p (omega arith)) (h .value j k m hk)
       place-of j k hk (yes l) hj (no m) =
           let d : j ≡ i = omega arith in
           let e : out + 16 * i + place (16 * rows) k ≡ x + k = omega (arith, place-first (16 * rows) k l) in
-          rw (d, e, u .below (x + k) (omega arith), s .value k l, ef k l) (v k hk)
+          let c : 0 + k ≡ k = omega arith in
+          rw (d, e, u .below (x + k) (omega arith), s .value k l, c) (v k hk)
       place-of j k hk (no l) hj (no m) =
           let d : j ≡ i = omega arith in
           let e : out + 16 * i + place (16 * rows) k ≡ y + (k - 16) = omega (arith, far k (omega arith) hk) in
           let c : 16 + (k - 16) ≡ k = omega arith in
-          rw (d, e, u .value (k - 16) (omega arith), eg (k - 16) (omega arith), c) (v k hk)
+          rw (d, e, u .value (k - 16) (omega arith), c) (v k hk)

@@ -1,11 +1,12 @@
 -- Laws of lists that are written place by place.
-use Prim.Native.Nat.{ℕ, _+_, _-_, _<_}
+use Prim.Native.Nat.{ℕ, _+_, _-_, _<_, _≤_}
 use mathlib.Core.List.{List}
 use mathlib.Core.Logic.{_⊎_, inl, inr}
 use mathlib.Core.Path.{_≡_, refl, sym, _∙_, ap}
 use native.Mathlib.Decide.{decLt}
 use native.Mathlib.Omega.{arith}
-use lib.ListN.{length, getD, set, take, drop, replicate, length-set, length-replicate, getD-replicate, List·getD-eq-default}
+use lib.ListN.{length, getD, set, take, drop, replicate, length-set, length-take, length-drop, length-replicate, getD-replicate}
+use lib.ListN.{List·getD-eq-default}
 use lib.Seq.{getD-set-same, getD-set-other, getD-take, getD-drop, ext-getD}
 use Rattle.lists.specs.Lists.{from}
 use Rattle.lists.specs.Laws.Lists.{from-at, length-from}
@@ -71,6 +72,19 @@ put-next {at} {n} {m} {f} {g} {w} {w′} {w″} h s e = record {
         let d : at + k ≡ at + n + (k - n) = omega arith in
         let c : n + (k - n) ≡ k = omega arith in
         ap (λ (j : ℕ). getD w″ j 0) d ∙ s .value (k - n) (omega arith) ∙ e (k - n) (omega arith) ∙ ap f c
+
+-- a part of r, written
+pub put-part :
+    (s e : ℕ) (r : List ℕ) {at n : ℕ} {w w′ : List ℕ} → e ≤ length r → e - s ≡ n →
+    Put at (length (take (e - s) (drop s r))) (λ (k : ℕ). getD (take (e - s) (drop s r)) k 0) w w′ → Put at n (λ (k : ℕ). getD r (s + k) 0) w w′
+put-part s e r l d h =
+    let long : length (take (e - s) (drop s r)) ≡ e - s = simp (length-take, length-drop) (omega arith) in
+    record {
+      size = h .size;
+      value = λ k hk. h .value k (omega (arith, long)) ∙ part-at s e r (omega arith) refl;
+      below = h .below;
+      above = λ p hp. h .above p (omega (arith, long));
+    }
 
 pub put-to : {at n m : ℕ} {f : ℕ → ℕ} {w w′ : List ℕ} → n ≡ m → Put at n f w w′ → Put at m f w w′
 put-to e h = rw e at h

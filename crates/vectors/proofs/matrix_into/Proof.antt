@@ -13,7 +13,9 @@ use Rattle.vectors.proofs.matrix_into.Statement.{statement}
 use Rattle.vectors.proofs.matrix_into.Tie as tie
 
 abbrev Inv-loop : tie.InvT-loop
-Inv-loop transposed l matrix s work₀ out₀ row column i₀ work out i = (i ≤ l) × (length work ≡ length work₀) × Prefix (length out₀) out (256 * i) (sums 65536 i l (λ i j. poly matrix (column * j + row * i)) s)
+Inv-loop transposed l matrix s work₀ out₀ row column i₀ work out i =
+    (i ≤ l) × (length work ≡ length work₀)
+    × Prefix (length out₀) out (256 * i) (sums 65536 i l (λ i j. poly matrix (column * j + row * i)) s)
 
 abbrev μ-loop : tie.MeasureT-loop
 μ-loop transposed l matrix s work₀ out₀ row column i₀ work out i = l - i
@@ -46,7 +48,10 @@ loop-again c =
     let few = k .some-rows .ensures in (
       omega (arith, few .2),
       search needs,
-      rw (← rows-more (start .args .l) (strides .before .stride .result) (strides .stride2 .result) (at .loop .i) (k .some-rows .result) _ _ (v .ensures), mul-add 256 (at .loop .i) (k .some-rows .result))
+      rw (
+        ← rows-more (start .args .l) (strides .before .stride .result) (strides .stride2 .result) (at .loop .i) (k .some-rows .result) _ _ (v .ensures),
+        mul-add 256 (at .loop .i) (k .some-rows .result),
+      )
           (prefix-part _ (at .loop .inv .2) (omega arith) (omega (arith, start .pre .room, few .2)) (v .kept .1 .1 .1 .1 .1 .1 .1 .1 .0)),
     )
 

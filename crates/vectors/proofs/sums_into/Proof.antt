@@ -11,7 +11,8 @@ use Rattle.vectors.proofs.sums_into.Statement.{statement}
 use Rattle.vectors.proofs.sums_into.Tie as tie
 
 abbrev Inv-loop : tie.InvT-loop
-Inv-loop rows l a start row column s work₀ out₀ j₀ work out j = (out ≡ sums 65536 rows j (λ i j. poly a (start + column * j + row * i)) s) × (j ≤ l) × (length work ≡ length work₀) × (length out ≡ length out₀)
+Inv-loop rows l a start row column s work₀ out₀ j₀ work out j =
+    (out ≡ sums 65536 rows j (λ i j. poly a (start + column * j + row * i)) s) × (j ≤ l) × (length work ≡ length work₀) × (length out ≡ length out₀)
 
 abbrev μ-loop : tie.MeasureT-loop
 μ-loop rows l a start row column s work₀ out₀ j₀ work out j = l - j
@@ -46,7 +47,9 @@ sums-into-spec =
     Inv-loop
     μ-loop
     (λ c κs. search needs)
-    (λ c. (c .before .before .clear .ensures ∙ rw (c .before .before .before .before .before .before .before .before .pre .room) (sums-none _ _ _), omega arith, refl, refl))
+    (λ c.
+    let z = c .before .before in
+    (z .clear .ensures ∙ rw (z .before .before .before .before .before .before .pre .room) (sums-none _ _ _), omega arith, refl, refl))
     (λ c. search needs)
     (λ c. search needs)
     (λ c.

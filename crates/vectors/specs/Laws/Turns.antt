@@ -1,9 +1,9 @@
 -- What the code computes, turn by turn and call by call.
 use Prim.Native.Nat.{ℕ, zero, suc, _+_, _*_, _-_, _<_, _≤_, _%_}
 use mathlib.Core.Bool.{Bool, true, false, not, cond}
-use mathlib.Core.List.{List, [], _++_, map, append-nil, append-assoc}
+use mathlib.Core.List.{List, [], _++_, map}
 use mathlib.Core.Path.{_≡_, refl, sym, _∙_, ap, ap₂, fun-ext}
-use native.Mathlib.Nat.{add-zero, zero-add, add-suc, one-mul, zero-mul, mul-suc, mul-add, mul-le-mul-left}
+use native.Mathlib.Nat.{add-zero, zero-add, one-mul, zero-mul, mul-suc, mul-add, mul-le-mul-left}
 use native.Mathlib.Omega.{arith}
 use lib.IntN.{pos}
 use lib.ListN.{take, drop, length-map}
@@ -13,17 +13,11 @@ use Rattle.algebra.specs.Integers.{modℤ, sum}
 use Rattle.algebra.specs.Ring.{inner, nat, poly, blocks}
 use Rattle.algebra.specs.Laws.Product.{length-inner}
 use Rattle.algebra.specs.Laws.Reduced.{inner-more}
-use Rattle.algebra.specs.Laws.Vectors.{poly-map, poly-blocks, blocks-cong, map-blocks}
+use Rattle.algebra.specs.Laws.Vectors.{poly-map, poly-blocks, blocks-append, blocks-cong, map-blocks}
 use Rattle.ring.specs.Products.{isModulus}
 use Rattle.ring.specs.Laws.Products.{reduced}
 use Rattle.karatsuba.specs.Rows.{rowsAdded}
 use Rattle.vectors.specs.Vectors.{innerMod, matrixRow, matrixVector, side, sums}
-
-blocks-append : (n k : ℕ) (f : ℕ → List ℕ) → blocks (n + k) f ≡ blocks n f ++ blocks k (λ i. f (n + i))
-unfolding blocks
-blocks-append n zero f = rw add-zero (sym (append-nil (blocks n f)))
-blocks-append n (suc k) f =
-    rw add-suc (ap (λ t. t ++ f (n + k)) (blocks-append n k f) ∙ append-assoc (blocks n f) (blocks k (λ i. f (n + i))) (f (n + k)))
 
 module _ (M : ℕ → ℕ → List ℕ) (s : List ℕ) where
   -- the sums of no products are zeros
