@@ -6,8 +6,9 @@ use mathlib.Core.Path.{_≡_}
 use lib.Dec.{ltb}
 use lib.IntN.{_+ℤ_, _-ℤ_}
 use lib.ListN.{length, getD}
+use Rattle.lists.specs.Lists.{from}
 use Rattle.algebra.specs.Integers.{modℤ}
-use Rattle.algebra.specs.Ring.{poly}
+use Rattle.algebra.specs.Ring.{at, coef, nat, poly, blocks}
 use Rattle.lines.specs.Rooms.{reads, place}
 
 -- ---- what is asked
@@ -69,3 +70,7 @@ foldAt w x y old o k = modℤ (reads old (o + k) +ℤ (reads w (x + k) -ℤ read
 -- old + the product at x, with X^256 = -1
 abbrev pub foldRow : List ℕ → (x s : ℕ) → List ℕ → ℕ → ℕ
 foldRow w x s old k = modℤ (reads old k +ℤ (reads w (x + place s k) -ℤ reads w (x + place s (256 + k)))) 65536
+
+-- to polynomial i of `old` the product of a i and b, modulo 65536, for each i below rows
+unfoldable pub rowsAdded : ℕ → (ℕ → List ℕ) → List ℕ → List ℕ → List ℕ
+rowsAdded rows a b old = blocks rows (λ i. from 256 (λ k. modℤ (at (nat (poly old i)) k +ℤ coef 256 (nat (a i)) (nat b) k) 65536))

@@ -5,8 +5,7 @@ ghost use lib.ListN.{length};
 ghost use Rattle.lists.specs.Lists.{from};
 ghost use Rattle.algebra.specs.Ring.{poly, blocks};
 ghost use Rattle.ring.specs.Promises.{Multiplied};
-ghost use Rattle.karatsuba.specs.Rooms.{foldAt, foldRow, Line, LaidLine, Laid, LayRoom, LineRoom, FoldedRoom, RowsRoom, source};
-ghost use Rattle.karatsuba.specs.Rows.{rowsAdded};
+ghost use Rattle.karatsuba.specs.Rooms.{foldAt, foldRow, Line, LaidLine, Laid, LayRoom, LineRoom, FoldedRoom, RowsRoom, source, rowsAdded};
 use lines::put;
 use std::num;
 

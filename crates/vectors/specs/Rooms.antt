@@ -1,6 +1,8 @@
--- What the functions ask of the lengths of their arguments.
+-- What the functions ask of the lengths of their arguments, and what they gather.
 use Prim.Native.Nat.{ℕ, _+_, _*_, _<_, _≤_}
+use mathlib.Core.List.{List}
 use mathlib.Core.Path.{_≡_}
+use Rattle.algebra.specs.Ring.{inner, nat, residues, poly, blocks}
 
 -- what `sums_into` asks: up to four rows, and one at least where there is a product; the polynomials of each row in a, those of s; places to work
 -- in and for the sums
@@ -24,3 +26,7 @@ pub record MatrixRoom (l A s work out : ℕ) : Type 0 where
   pub vector : s ≡ 256 * l
   pub space : 4632 ≤ work
   pub room : out ≡ 256 * l
+
+-- for each i < rows the sum of the products of M i j and polynomial j of s, j < l, modulo m
+unfoldable pub sums : ℕ → ℕ → ℕ → (ℕ → ℕ → List ℕ) → List ℕ → List ℕ
+sums m rows l M s = blocks rows (λ i. residues m (inner 256 l (λ j. nat (M i j)) (λ j. poly (nat s) j)))

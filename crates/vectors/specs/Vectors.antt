@@ -25,7 +25,3 @@ entry l A i j = poly A (l * i + j)
 abbrev pub side : Bool → ℕ → List ℕ → ℕ → ℕ → List ℕ
 side false l A i j = entry l A i j
 side true l A i j = entry l A j i
-
--- what the code gathers: for each i < rows the sum of the products of M i j and polynomial j of s, j < l, modulo m
-unfoldable pub sums : ℕ → ℕ → ℕ → (ℕ → ℕ → List ℕ) → List ℕ → List ℕ
-sums m rows l M s = blocks rows (λ i. residues m (inner 256 l (λ j. nat (M i j)) (λ j. poly (nat s) j)))

@@ -36,7 +36,7 @@ slides-plus zero f g = refl
 slides-plus (suc h) f g = ap slide (slides-plus h f g) ∙ fun-ext (slide-plus (slides h f) (slides h g))
 
 -- ---- f g
-conv-comm : (f g : ℕ → ℤ) → conv f g ≡ conv g f
+pub conv-comm : (f g : ℕ → ℤ) → conv f g ≡ conv g f
 unfolding conv
 conv-comm f g =
     fun-ext (λ k. sum-reverse (suc k) _ ∙ sum-cong (suc k) _ (λ i. g i *ℤ f (k - i)) (λ i h.

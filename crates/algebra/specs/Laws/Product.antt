@@ -9,19 +9,17 @@ use lib.Seq.{ext-getD}
 use Rattle.lists.specs.Laws.Lists.{from-at, length-from, from-cong}
 use Rattle.algebra.specs.Integers.{sum}
 use Rattle.algebra.specs.Ring.{at, coef, inner}
+use Rattle.algebra.specs.Halves.{conv}
 use Rattle.algebra.specs.Laws.Sums.{sum-cong, sum-reverse}
+use Rattle.algebra.specs.Laws.Lines.{conv-comm}
 use Rattle.algebra.specs.Laws.Module.{acts, adjoint}
 use Rattle.algebra.specs.Laws.Operators.{ops, laws, acts-below, act-coef}
 
 -- the order of the factors does not count
 pub coef-comm : (n : ℕ) (a b : List ℤ) (k : ℕ) → k < n → coef n a b k ≡ coef n b a k
-unfolding coef
+unfolding coef conv
 coef-comm n a b k h =
-    ap₂ _-ℤ_
-    (sum-reverse (suc k) _ ∙ sum-cong (suc k) _ (λ i. at b i *ℤ at a (k - i)) (λ i hi.
-    let p : suc k - suc i ≡ k - i = omega arith in
-    let q : k - (k - i) ≡ i = omega arith in
-    rw (p, q) (*ℤ-comm (at a (k - i)) (at b i))))
+    ap₂ _-ℤ_ (ap (λ (f : ℕ → ℤ). f k) (conv-comm (at a) (at b)))
     (sum-reverse (n - suc k) _ ∙ sum-cong (n - suc k) _ (λ i. at b (suc k + i) *ℤ at a (n - suc i)) (λ i hi.
     let p : suc k + (n - suc k - suc i) ≡ n - suc i = omega arith in
     let q : n - suc (n - suc k - suc i) ≡ suc k + i = omega arith in

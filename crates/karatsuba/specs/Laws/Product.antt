@@ -19,8 +19,7 @@ use Rattle.algebra.specs.Laws.Halves.{split-conv}
 use Rattle.algebra.specs.Laws.Lines.{conv-same, coef-conv}
 use Rattle.lines.specs.Rooms.{reads, place, operand}
 use Rattle.halves.specs.Rooms.{Halved, SplitRoom}
-use Rattle.karatsuba.specs.Rooms.{foldRow, Laid, source, RowsRoom}
-use Rattle.karatsuba.specs.Rows.{rowsAdded}
+use Rattle.karatsuba.specs.Rooms.{foldRow, Laid, source, RowsRoom, rowsAdded}
 use Rattle.karatsuba.specs.Laws.Lay.{laid-blank, laid-operand, source-row, source-last}
 
 -- one row: p in its place, b behind the rows

@@ -7,7 +7,7 @@ use borrow.Author.Needs.{needs}
 use lib.ListN.{length, length-take, length-drop}
 use Rattle.lists.specs.Laws.Parts.{Prefix, prefix-none, prefix-part, prefix-all}
 use Rattle.algebra.specs.Ring.{poly}
-use Rattle.vectors.specs.Vectors.{sums}
+use Rattle.vectors.specs.Rooms.{sums}
 use Rattle.vectors.specs.Laws.Turns.{sums-empty, rows-more, matrix-values, matrix-factors}
 use Rattle.vectors.proofs.matrix_into.Statement.{statement}
 use Rattle.vectors.proofs.matrix_into.Tie as tie

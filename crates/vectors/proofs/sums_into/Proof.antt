@@ -5,7 +5,7 @@ use native.Mathlib.Omega.{arith}
 use borrow.Author.Needs.{needs}
 use lib.ListN.{length, length-take, length-drop}
 use Rattle.algebra.specs.Ring.{poly}
-use Rattle.vectors.specs.Vectors.{sums}
+use Rattle.vectors.specs.Rooms.{sums}
 use Rattle.vectors.specs.Laws.Turns.{sums-none, sums-more}
 use Rattle.vectors.proofs.sums_into.Statement.{statement}
 use Rattle.vectors.proofs.sums_into.Tie as tie

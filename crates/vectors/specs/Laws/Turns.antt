@@ -16,8 +16,9 @@ use Rattle.algebra.specs.Laws.Reduced.{inner-more}
 use Rattle.algebra.specs.Laws.Vectors.{poly-map, poly-blocks, blocks-append, blocks-cong, map-blocks}
 use Rattle.ring.specs.Products.{isModulus}
 use Rattle.ring.specs.Laws.Products.{reduced}
-use Rattle.karatsuba.specs.Rows.{rowsAdded}
-use Rattle.vectors.specs.Vectors.{innerMod, matrixRow, matrixVector, side, sums}
+use Rattle.karatsuba.specs.Rooms.{rowsAdded}
+use Rattle.vectors.specs.Vectors.{innerMod, matrixRow, matrixVector, side}
+use Rattle.vectors.specs.Rooms.{sums}
 
 module _ (M : ℕ → ℕ → List ℕ) (s : List ℕ) where
   -- the sums of no products are zeros
