@@ -1,6 +1,6 @@
 #!/bin/sh
-# Builds the archive and measures it: the scheme beside others, the ring products beside plain C, the hashes beside
-# OpenSSL's.
+# Builds the archive and measures it: the scheme beside others, the ring products and the secrets beside plain C, the
+# hashes beside OpenSSL's.
 set -eu
 cd "$(dirname "$0")/.."
 rt staticlib saber
@@ -8,6 +8,8 @@ archive=target/staticlib/libsaber.a
 python3 bench/scheme/run.py "$archive"
 echo
 sh bench/product/run.sh "$archive"
+echo
+sh bench/sampling/run.sh "$archive"
 if command -v openssl >/dev/null; then
     echo
     sh bench/hash/run.sh "$archive"

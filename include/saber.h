@@ -1,9 +1,10 @@
 // Saber, a key encapsulation, in the three parameter sets of its submission.
 //
-// A slice is a pointer and then a count of elements: bytes, or coefficients of 16 bits, which start at an even address. A number that is
-// handed back is lent as a pointer to one and is an output too. Each call asks its questions in the order of `enum saber_answer`, all but
-// saber_read_record, which has an order of its own. It answers 0 with its outputs written, or the first refusal with no output changed,
-// whatever the numbers, counts and contents. Calls keep nothing from one to the next and may run in several threads.
+// A slice is a pointer and then a count of elements: bytes, signed numbers of 8 bits, or coefficients of 16 bits, which start at an even
+// address. A number that is handed back is lent as a pointer to one and is an output too. Each call asks its questions in the order of
+// `enum saber_answer`, all but saber_read_record, which has an order of its own. It answers 0 with its outputs written, or the first
+// refusal with no output changed, whatever the numbers, counts and contents. Calls keep nothing from one to the next and may run in
+// several threads.
 //
 // What no call can test, and the caller sees to:
 //
@@ -142,8 +143,10 @@ uint8_t saber_read_record(const uint8_t *record, size_t record_count, uint8_t *h
 // The matrix of a seed of 32 bytes: 256 x l x l coefficients below 8192, row by row. Refusals: 1, 3, 9.
 uint8_t saber_gen_matrix(uint32_t set, const uint8_t *seed, size_t seed_count, uint16_t *matrix, size_t matrix_count);
 
-// The secret of a seed of 32 bytes: 256 x l coefficients, modulo 8192. Refusals: 1, 3, 9.
-uint8_t saber_gen_secret(uint32_t set, const uint8_t *seed, size_t seed_count, uint16_t *secret, size_t secret_count);
+// The secret of a seed of 32 bytes: 256 x l signed coefficients, in -mu/2 .. mu/2: -5 .. 5 in set 1, -4 .. 4 in set 2, -3 .. 3 in set 3.
+// No residue is written: who packs or multiplies coefficients first adds the modulus to each negative one, 8192, or 1024 for a product
+// modulo 1024. Refusals: 1, 3, 9.
+uint8_t saber_gen_secret(uint32_t set, const uint8_t *seed, size_t seed_count, int8_t *secret, size_t secret_count);
 
 // Polynomials of 256 coefficients. None of these works in place.
 

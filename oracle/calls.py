@@ -10,6 +10,10 @@ from typing import Callable, NamedTuple
 
 import saber
 
+# What each element of a slice may be, by the slice's kind
+ELEMENTS = {"bytes": range(1 << 8), "list": range(1 << 16), "signed": range(-128, 128)}
+
+
 # Roles. A length or bound is a number, or a function of the call's inputs by their names: see `Call.given`.
 
 
@@ -31,9 +35,9 @@ class Optional(NamedTuple):
 
 
 class Slice(NamedTuple):
-    """Bytes, or a list of coefficients. The question is the one about its length where it is an input."""
+    """Bytes, or a list of coefficients or of signed numbers. The question is about its length where it is an input."""
 
-    kind: str
+    kind: str  # one of ELEMENTS
     length: int | Callable | None = None  # None: any length
     question: int | None = None
     bound: int | Callable | None = None  # what coefficients lie below
@@ -43,6 +47,11 @@ class Slice(NamedTuple):
 
     def limit(self, given):
         return self.bound(given) if callable(self.bound) else self.bound
+
+    def elements(self, given):
+        """What each element may be in a call that no question refuses."""
+        limit = self.limit(given)
+        return ELEMENTS[self.kind] if limit is None else range(limit)
 
 
 def polynomial(bound):
@@ -74,7 +83,7 @@ ROLES = {
     "data": polynomial(lambda given: saber.P // given.set.g),
     "bits": polynomial(2),
     "matrix": Slice("list", lambda given: saber.N * given.set.l * given.set.l, bound=saber.Q),
-    "secret": Slice("list", lambda given: saber.N * given.set.l, bound=saber.Q),
+    "secret": Slice("signed", lambda given: saber.N * given.set.l),
 }
 
 
@@ -97,6 +106,11 @@ class Call(NamedTuple):
     @property
     def parameters(self):
         return self.inputs + self.outputs
+
+    @property
+    def results(self):
+        """The roles of what `run` gives behind the answer; a lookup gives bytes, a part of an input."""
+        return [p.role for p in self.handed + self.outputs] or [ROLES["any"]]
 
     @property
     def exports(self):

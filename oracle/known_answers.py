@@ -110,6 +110,6 @@ def checks(label, entry):
         (("decaps", number, entry.sk, entry.ct, ss), (entry.ss,)),
     )
     return [
-        Check(f"{label} {call[0]}", notation.write_request(*call), notation.write_answer(0, outputs))
+        Check(f"{label} {call[0]}", notation.write_request(*call), notation.write_answer(call[0], 0, outputs))
         for call, outputs in calls
     ]

@@ -1,21 +1,23 @@
 """The line notation of the program sabercall: a call on each line, an answer on each line.
 
 A line is a call's name and its arguments, one space between words: numbers in decimal, bytes as hex
-pairs, lists as four hex digits a coefficient, `-` for an empty string or list and for a number that is
-missing. An output argument is the content of the buffer that is lent. The answer is the call's number,
-the numbers that it hands back, then every output as it is after the call. Lines that begin with `#` are
-comments.
+pairs, lists as four hex digits a coefficient, signed lists in decimal with commas between, as `0,-4,4`;
+`-` for an empty string or list and for a number that is missing. An output argument is the content of
+the buffer that is lent. The answer is the call's number, the numbers that it hands back, then every
+output as it is after the call. Lines that begin with `#` are comments.
 
     python3 oracle/notation.py < requests > answers
 """
 
+import re
 import struct
 import sys
 
-from calls import CALLS
+from calls import CALLS, ELEMENTS
 
 LONGEST = 65536
-DECIMAL = b"0123456789"
+NUMBER = re.compile(rb"[0-9]+")
+SIGNED = re.compile(rb"-?[0-9]+(,-?[0-9]+)*")  # all but the empty list
 HEXADECIMAL = b"0123456789abcdefABCDEF"
 
 
@@ -23,13 +25,29 @@ class Unreadable(Exception):
     """A line that is no call; its text is the reason."""
 
 
+def one_of(numbers, piece):
+    """The number that a piece spells in decimal, with `-` before it or not; it has to be one of these."""
+    digits = piece.lstrip(b"-0") or b"0"
+    if len(digits) <= 20:
+        number = -int(digits) if piece.startswith(b"-") else int(digits)
+        if number in numbers:
+            return number
+    raise Unreadable("too large")
+
+
 def read_number(word, bits):
-    if not word or any(byte not in DECIMAL for byte in word):
+    if not NUMBER.fullmatch(word):
         raise Unreadable("bad digit")
-    digits = word.lstrip(b"0") or b"0"
-    if len(digits) > 20 or int(digits) >= 1 << bits:
-        raise Unreadable("too large")
-    return int(digits)
+    return one_of(range(1 << bits), word)
+
+
+def read_signed(word):
+    """The numbers of a signed list. That each piece is a number is asked before how large it is."""
+    if word == b"-":
+        return []
+    if not SIGNED.fullmatch(word):
+        raise Unreadable("bad digit")
+    return [one_of(ELEMENTS["signed"], piece) for piece in word.split(b",")]
 
 
 def read_hex(word, unit):
@@ -50,28 +68,34 @@ def read_word(word, role):
         return None
     if role.kind in ("number", "optional"):
         return read_number(word, role.bits)
+    if role.kind == "signed":
+        return read_signed(word)
     if role.kind == "bytes":
         return read_hex(word, 2)
     string = read_hex(word, 4)
     return list(struct.unpack(f">{len(string) // 2}H", string))
 
 
-def write_word(value):
+def write_word(value, role):
     if value is None:
         return b"-"
-    if isinstance(value, int):
+    if role.kind in ("number", "optional"):
         return b"%d" % value
-    string = value if isinstance(value, bytes) else struct.pack(f">{len(value)}H", *value)
+    if role.kind == "signed":
+        return b",".join(b"%d" % x for x in value) or b"-"
+    string = value if role.kind == "bytes" else struct.pack(f">{len(value)}H", *value)
     return string.hex().encode() or b"-"
 
 
-def write_answer(number, values):
+def write_answer(name, number, values):
     """The values are those handed back, then the outputs. An answer of None is left out."""
-    return b" ".join(map(write_word, values if number is None else [number, *values]))
+    words = [write_word(value, role) for value, role in zip(values, CALLS[name].results, strict=True)]
+    return b" ".join(words if number is None else [b"%d" % number, *words])
 
 
 def write_request(name, *arguments):
-    return b" ".join([name.encode(), *map(write_word, arguments)])
+    pairs = zip(arguments, CALLS[name].parameters, strict=True)
+    return b" ".join([name.encode(), *(write_word(value, parameter.role) for value, parameter in pairs)])
 
 
 def read_request(line):
@@ -98,7 +122,7 @@ def answer_line(line):
         call, arguments = read_request(line)
     except Unreadable as reason:
         return f"error {reason}".encode()
-    return write_answer(*call.run(*arguments))
+    return write_answer(call.name, *call.run(*arguments))
 
 
 def lines_of(requests):

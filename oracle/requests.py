@@ -5,8 +5,8 @@
 
 `--to DIR` takes another root than the repository's.
 The answers are the oracle's. An answer that is known beforehand (a case of document 01, a published
-vector, a known answer, a record, a refusal, an error) is stated beside its request, and the oracle's
-is compared with it.
+vector, a known answer, a secret counted bit by bit, a record, a refusal, an error) is stated beside its
+request, and the oracle's is compared with it.
 """
 
 import argparse
@@ -23,7 +23,7 @@ import notation
 import saber
 from calls import CALLS
 from samples import NIST_FILES, bits, counted_secret, draw, draw_list, flipped, laid_record, lent_bytes, lent_list
-from samples import monomial, rejected_secret, spread, vectors, with_bit_turned
+from samples import lent_signed, monomial, rejected_secret, spread, vectors, with_bit_turned
 
 UNKNOWN_SETS = (4, 5, 4294967295)
 UNKNOWN_WIDTHS = (0, 2, 5, 12, 14, 16, 1024, 4294967295)
@@ -41,7 +41,7 @@ class Line(NamedTuple):
 
 def ask(name, *arguments, stated=None):
     """A line that makes a call; `stated` is its number, and what it hands back with its outputs."""
-    return Line(notation.write_request(name, *arguments), stated and notation.write_answer(*stated))
+    return Line(notation.write_request(name, *arguments), stated and notation.write_answer(name, *stated))
 
 
 # Refusals
@@ -301,35 +301,60 @@ def round_section():
     yield from refusals("round", "round", [draw_list("round refused", 8192), lent_list()])
 
 
-def gen_section(name, size):
+def gen_seeds(name, number):
+    return [bytes(32), ONES, *(draw(f"{name} {number} {turn}", 32) for turn in range(3))]
+
+
+def gen_section(name, lent, known=None):
+    """`lent` gives the output that is lent for a set, `known` what is known beforehand of a set and a seed."""
     for number, set in saber.NUMBERS.items():
         yield f"# {name}, set {number}: a seed of 0, of ones, random ones"
-        for seed in (bytes(32), ONES, *(draw(f"{name} {number} {turn}", 32) for turn in range(3))):
-            yield ask(name, number, seed, lent_list(size(set)))
-        sound = [number, draw(f"{name} {number} refused", 32), lent_list(size(set))]
-        yield from set_refusals(name, number, sound)
-        other = saber.NUMBERS[number % 3 + 1]
+        for seed in gen_seeds(name, number):
+            yield ask(name, number, seed, lent(set), stated=known and (0, [known(set, seed)]))
+        yield from set_refusals(name, number, [number, draw(f"{name} {number} refused", 32), lent(set)])
+        other = lent(saber.NUMBERS[number % 3 + 1])
         yield f"# {name}, set {number}: an output for another set"
-        yield ask(name, number, bytes(32), lent_list(size(other)), stated=(9, [lent_list(size(other))]))
+        yield ask(name, number, bytes(32), other, stated=(9, [other]))
 
 
 def gen_matrix_section():
-    return gen_section("gen_matrix", lambda set: 256 * set.l * set.l)
+    return gen_section("gen_matrix", lambda set: lent_list(256 * set.l * set.l))
 
 
-# Document 01's cases of sampling: the set, a seed without the zeros at its end, the bytes with which SHAKE-128 of it
-# starts, and the first coefficient
-SAMPLED = ((1, "d71d", "e003", 8187), (2, "3d", "f0", 8188), (2, "28", "0f", 4), (2, "019a", "31", 8191))
+# Document 01's cases of sampling, as A4 has them: the set, a seed without the zeros at its end, the bytes with which
+# SHAKE-128 of it starts, and the first coefficient
+SAMPLED = ((1, "d71d", "e003", -5), (2, "3d", "f0", -4), (2, "28", "0f", 4), (2, "019a", "31", -1))
 
 
 def gen_secret_section():
+    def lent(set):
+        return lent_signed(256 * set.l)
+
+    def counted(set, seed):
+        return counted_secret(seed, set.l, set.mu)
+
     yield "# gen_secret: the cases of document 01, from seeds whose SHAKE-128 output starts with the bytes of the case"
     for number, start, string, coefficient in SAMPLED:
         set, seed = saber.NUMBERS[number], bytes.fromhex(start).ljust(32, b"\0")
-        secret = [x % 8192 for x in counted_secret(seed, set.l, set.mu)]
+        secret = counted(set, seed)
         assert hashlib.shake_128(seed).hexdigest(len(string) // 2) == string and secret[0] == coefficient
-        yield ask("gen_secret", number, seed, lent_list(256 * set.l), stated=(0, [secret]))
-    yield from gen_section("gen_secret", lambda set: 256 * set.l)
+        yield ask("gen_secret", number, seed, lent(set), stated=(0, [secret]))
+    yield from gen_section("gen_secret", lent, counted)
+    sampled = {byte for seed in gen_seeds("gen_secret", 2) for byte in hashlib.shake_128(seed).digest(768)}
+    assert sampled == {*range(256)}, "set 2 weighs every byte"
+
+    for number, set in saber.NUMBERS.items():
+        seed, size = draw(f"gen_secret {number} lent", 32), 256 * set.l
+        secret = counted(set, seed)
+        yield f"# gen_secret, set {number}: an output of -128, of 127, of -1, of 0, of the secret; refused with each"
+        for content in ([-128] * size, [127] * size, [-1] * size, [0] * size, secret):
+            yield ask("gen_secret", number, seed, content, stated=(0, [secret]))
+            yield ask("gen_secret", UNKNOWN_SETS[0], seed, content, stated=(1, [content]))
+            yield ask("gen_secret", number, seed[1:], content, stated=(3, [content]))
+            yield ask("gen_secret", number, seed, content[1:], stated=(9, [content[1:]]))
+        yield f"# gen_secret, set {number}: outputs of other lengths"
+        for length in (0, 1, 2, 255, 256, 257, 2 * size):
+            yield ask("gen_secret", number, seed, lent_signed(length), stated=(9, [lent_signed(length)]))
 
 
 def recon_data_section():
@@ -702,6 +727,87 @@ def padded(line, length):
     return line.ljust(length, b"5")
 
 
+def signed_lines(answer, *words):
+    """Lines with a signed list at their end, and an answer to them."""
+    return [Line(b"gen_secret 4 - " + word, answer) for word in words]
+
+
+def filled(piece, length):
+    """A signed list of so many bytes: 0, with zeros in front as they are needed, then the piece over and over."""
+    return (piece * ((length - 1) // len(piece))).rjust(length, b"0")
+
+
+def signed_notation():
+    every = b",".join(b"%d" % x for x in range(-128, 128))
+    yield "# notation: signed lists"
+    for word in (b"-", b"0", b"4", b"-4", b"0,-4,4", b"-4,0,-4", b"10,-10,100,-100", b"-128", b"127", b"-128,127"):
+        yield from signed_lines(b"1 " + word, word)
+    yield from signed_lines(b"1 " + every, every)
+    yield "# notation: signed lists with zeros in front, with a sign before 0"
+    for word, printed in (
+        (b"-0", b"0"), (b"00", b"0"), (b"000", b"0"), (b"-000", b"0"), (b"0,-0,0", b"0,0,0"), (b"0004", b"4"),
+        (b"-0004", b"-4"), (b"0127,-0128", b"127,-128"), (b"000000127,-000000128", b"127,-128"),
+        (b"0" * 5000 + b"127," + b"0" * 5000, b"127,0"), (b"-" + b"0" * 5000 + b"128", b"-128"),
+    ):
+        yield from signed_lines(b"1 " + printed, word)
+    yield from normal()
+
+    yield "# notation: signed lists with an empty piece, a sign that stands elsewhere or another byte"
+    yield from signed_lines(
+        b"error bad digit",
+        b"", b",", b",,", b"0,", b",0", b"0,,0", b",0,", b"-,", b",-", b"-,-", b"0,-", b"-,0", b"0,-,0", b"--", b"--4",
+        b"0,--4", b"4-", b"4-4", b"-4-", b"0-", b"-0-", b"+4", b"+", b"0,+4", b"-+4", b"+-4", b"0x4", b"4.0", b"4;4",
+        b"1e1", b"1_0", b"a", b"0a", b"a0", b"0,a", b"00a0", b"-a", b"0/", b"0:", b"/", b":", b"0.", b"0'", b"4\t",
+        b"\t4", b"0,\t4", b"4\r", b"4\0", b"\0", b"\xff", b"0,\xff", b"\xe2\x88\x924", b"\xd9\xa3", b"#", b"0,#",
+        every + b",", b"," + every, every + b"," + every.replace(b"-77", b"-77-"), b"0" * 5000 + b"-",
+    )
+    yield "# notation: signed lists with a number out of -128 .. 127"
+    yield from signed_lines(
+        b"error too large",
+        b"128", b"-129", b"129", b"-130", b"0,128", b"128,0", b"0,-129,0", b"127,128", b"-128,-129", b"0128", b"-0129",
+        b"200", b"-200", b"255", b"-255", b"256", b"-256", b"257", b"-257", b"260", b"384", b"-384", b"999", b"-999",
+        b"1000", b"1270", b"-1280", b"8188", b"65408", b"65535", b"65536", b"65540", b"-65536", b"4294967168",
+        b"4294967295", b"4294967296", b"-4294967296", b"4294967300", b"18446744073709551488", b"18446744073709551615",
+        b"18446744073709551616", b"-18446744073709551616", b"18446744073709551620",
+        b"340282366920938463463374607431768211456", b"1" + b"0" * 5000, b"-1" + b"0" * 5000, b"0" * 5000 + b"128",
+        every + b",128", b"-129," + every,
+    )
+    yield "# notation: signed lists with both faults: a bad digit anywhere comes first"
+    yield from signed_lines(
+        b"error bad digit",
+        b"128,", b",128", b"128,x", b"x,128", b"128,,128", b"-129,-", b"-,-129", b"128,+4", b"128-", b"999,--4",
+        b"1000x", b"256,256,a", b"9" * 5000 + b",", b"9" * 5000 + b"x", every + b",128,-129,",
+    )
+    yield from normal()
+
+    yield "# notation: lines with a signed list, the first fault from the left"
+    yield from unreadable(
+        "bad digit",
+        b"gen_secret x - ,", b"gen_secret x - 128", b"gen_secret - - -", b"gen_secret 4 0g 128", b"gen_secret 4 -- 0",
+        b"gen_secret 4 - , x", b"gen_secret 4 - ", b"gen_secret 4 -  ", b"gen_secret 4  0", b"gen_secret ",
+        b"gen_secret 4 - 0, 4", b"gen_secret 4 - ,0 4",
+    )
+    yield from unreadable(
+        "too large",
+        b"gen_secret 4294967296 - ,", b"gen_secret 4294967296 0 0", b"gen_secret 4 - 128 x", b"gen_secret 4 - -129 ",
+    )
+    yield from unreadable("odd count", b"gen_secret 4 0 ,", b"gen_secret 4 000 128", b"gen_secret 4 0")
+    yield from unreadable(
+        "wrong count",
+        b"gen_secret", b"gen_secret 4", b"gen_secret 4 -", b"gen_secret 4 00", b"gen_secret 4 - 0,-4,4 ",
+        b"gen_secret 4 - 0,-4,4 -", b"gen_secret 4 - - -", b"gen_secret 4 - 0 ,4", b"gen_secret 4 - 0 x",
+    )
+    yield from unreadable(
+        "unknown call",
+        b"gen_secre 4 - 0", b"gen_secrets 4 - 0", b"Gen_secret 4 - 0", b"gen-secret 4 - 0", b"gen_secret,4,-,0",
+        b"secret 4 - 0",
+    )
+    yield "# notation: no other list is signed"
+    yield from unreadable("bad digit", b"gen_matrix 4 - -4,4", b"unpack 5 - 0,-4", b"round 0,-4 -", b"pack 5 0,-4 -")
+    yield from unreadable("odd count", b"gen_matrix 4 - 0,4", b"unpack 5 - -4", b"round 0,-4,4 -", b"sha3_256 - -4,")
+    yield from normal()
+
+
 def notation_section():
     yield "# notation: a first word that is no call's name"
     yield from unreadable(
@@ -862,10 +968,12 @@ def notation_section():
     yield Line(b"read_record 0c01 a5", b"11 - - - a5")
     yield from normal()
 
+    yield from signed_notation()
+
     yield "# notation: both cases of hex digits"
     string = draw("notation", 32)
     lower, mixed = string.hex(), "".join(x.upper() if i % 3 else x for i, x in enumerate(string.hex()))
-    stated = notation.write_answer(0, [bits(string)])
+    stated = notation.write_answer("unpack", 0, [bits(string)])
     for digits in (lower, lower.upper(), mixed):
         yield Line(f"unpack 1 {digits} {'aBcD' * 256}".encode(), stated)
     yield Line(b"pack 5 ABCDEFabcdef A5B6c7D8", b"2 a5b6c7d8")
@@ -885,6 +993,15 @@ def notation_section():
     yield from normal()
     yield from unreadable("unknown call", padded(b"no_such_call ", 65536))
     yield from unreadable("too long", padded(b"no_such_call ", 131073))
+    yield from normal()
+    yield "# notation: signed lists in lines of 65536 bytes: most numbers, the longest ones, a fault at the end"
+    room = 65536 - len(b"gen_secret 4 - ")
+    for piece in (b",0", b",-128"):
+        longest = filled(piece, room)
+        yield from signed_lines(b"1 0" + longest.lstrip(b"0"), longest)
+    yield from signed_lines(b"error bad digit", filled(b",0", room - 1) + b",", b"128" + filled(b",0", room - 4) + b"x")
+    yield from signed_lines(b"error too large", filled(b",-1", room - 4) + b",128", padded(b"", room))
+    yield from signed_lines(b"error too long", filled(b",0", room + 1))
     yield from normal()
 
     yield "# notation: the last line has no newline"

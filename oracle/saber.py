@@ -181,14 +181,14 @@ def sampled(string, mu):
     return [first - second for first, second in zip(ones[0::2], ones[1::2])]
 
 
-def secret_of(set, seed):
-    """The secret vector, as whole numbers in -mu/2 .. mu/2."""
-    return polynomials(sampled(shake128(seed, 32 * set.l * set.mu), set.mu))
-
-
 def gen_secret(set, seed):
-    """Its residues, one polynomial after the other."""
-    return modulo(flat(secret_of(set, seed)), Q)
+    """The secret, as whole numbers in -mu/2 .. mu/2 (A4), one polynomial after the other."""
+    return sampled(shake128(seed, 32 * set.l * set.mu), set.mu)
+
+
+def secret_of(set, seed):
+    """The same as a vector. Its residues are taken where it is packed, and after it is multiplied."""
+    return polynomials(gen_secret(set, seed))
 
 
 # Reconciliation, first for one coefficient

@@ -53,6 +53,11 @@ def lent_list(length=256):
     return [0xA000 + i for i in range(length)]
 
 
+def lent_signed(length):
+    """Never in -6 .. 5, so no coefficient of a secret: -128, 127, -127, 126 and so on, and after 244 of them again."""
+    return [-128 + i % 244 // 2 if i % 2 == 0 else 127 - i % 244 // 2 for i in range(length)]
+
+
 def bits(string):
     """The bits of a string in order, by the definition of a byte."""
     return [string[i // 8] >> i % 8 & 1 for i in range(8 * len(string))]

@@ -1,4 +1,5 @@
-"""Tests of the oracle: the cases of document 01, NIST's vectors, records, and what the papers say must hold.
+"""Tests of the oracle: the cases of document 01, NIST's vectors, records, signed lists, and what the papers say must
+hold.
 
     python3 oracle/selftest.py
 """
@@ -8,11 +9,12 @@ import itertools
 import sys
 
 import drbg
+import known_answers
 import notation
 import saber
 from calls import CALLS, run
-from samples import NIST_FILES, bits, counted_secret, draw, draw_list, flipped, laid_record, lent_bytes, monomial
-from samples import rejected_secret, vectors, with_bit_turned
+from samples import NIST_FILES, bits, counted_secret, draw, draw_list, flipped, laid_record, lent_bytes, lent_signed
+from samples import monomial, rejected_secret, vectors, with_bit_turned
 
 PRODUCTS = ("poly_mul", "poly_mul_karatsuba")  # the plain one and A3's, which asks the same questions
 
@@ -52,9 +54,9 @@ def cases():
     """Document 01, "Cases", and the lines of saberset."""
     x = [3, 4, 8187, 8188] + [0] * 252
     check("rounding", run("round", x, [7] * 256) == (0, [[0, 1, 1023, 0] + [0] * 252]))
-    for byte, coefficient in ((0xF0, 8188), (0x0F, 4), (0x31, 8191)):
-        check(f"set 2 sampling {byte:02X}", saber.modulo(saber.sampled(bytes([byte]), 8), 8192) == [coefficient])
-    check("set 1 sampling E0 03", saber.modulo(saber.sampled(bytes.fromhex("e003000000"), 10), 8192)[0] == 8187)
+    for byte, coefficient in ((0xF0, -4), (0x0F, 4), (0x31, -1)):
+        check(f"set 2 sampling {byte:02X}", saber.sampled(bytes([byte]), 8) == [coefficient])
+    check("set 1 sampling E0 03", saber.sampled(bytes.fromhex("e003000000"), 10)[0] == -5)
     for width, start, string in ((13, [8191, 0], "ff1f"), (13, [0, 1], "0020"), (10, [0, 1], "0004")):
         answer, [packed] = run("pack", width, start + [0] * 254, bytes(32 * width))
         check(f"width {width}: {start}", answer == 0 and packed[:2] == bytes.fromhex(string) and not any(packed[2:]))
@@ -182,13 +184,47 @@ def sampling():
     for number in saber.NUMBERS:
         set = saber.NUMBERS[number]
         seed = draw(f"selftest sampling {number}", 32)
-        signed = counted_secret(seed, set.l, set.mu)
-        residues = [x % 8192 for x in signed]
-        check(f"set {number}: secret", run("gen_secret", number, seed, [7] * 256 * set.l) == (0, [residues]))
-        check(f"set {number}: signed secret", saber.flat(saber.secret_of(set, seed)) == signed)
+        secret = counted_secret(seed, set.l, set.mu)
+        check(f"set {number}: secret", run("gen_secret", number, seed, lent_signed(256 * set.l)) == (0, [secret]))
+        check(f"set {number}: secret vector", saber.flat(saber.secret_of(set, seed)) == secret)
         stream = bits(hashlib.shake_128(seed).digest(416 * set.l**2))
         numbers = [value(stream[i : i + 13]) for i in range(0, len(stream), 13)]
         check(f"set {number}: matrix", run("gen_matrix", number, seed, [7] * 256 * set.l**2) == (0, [numbers]))
+
+
+def ones(number, places):
+    return sum(number >> i & 1 for i in places)
+
+
+def weights():
+    """Every pair of pieces, by its number of mu bits. Of mu = 8 it is A4's table of 256 weights."""
+    for byte in range(256):
+        weight = ones(byte, range(4)) - ones(byte, range(4, 8))
+        check(f"weight of byte {byte:02X}", saber.sampled(bytes([byte]), 8) == [weight])
+    for half in (5, 4, 3):
+        numbers = range(4**half)
+        stream = value([x >> i & 1 for x in numbers for i in range(2 * half)])
+        signed = saber.sampled(stream.to_bytes(len(numbers) * half // 4, "little"), 2 * half)
+        counted = [ones(x, range(half)) - ones(x, range(half, 2 * half)) for x in numbers]
+        check(f"mu = {2 * half}: every pair of pieces", signed == counted)
+        check(f"mu = {2 * half}: numbers in -mu/2 .. mu/2", {*signed} == {*range(-half, half + 1)})
+
+
+def residues():
+    """Modulo 8192 a secret is what the call gave before A4, and in 13 bits it is the plain secret of the key."""
+    for number, path in known_answers.FILES.items():
+        set = saber.SETS[number]
+        half = set.mu // 2
+        for label, entry in known_answers.read(path.read_text()):
+            seed = known_answers.drawn(entry.seed)[1]
+            answer, [secret] = run("gen_secret", number, seed, lent_signed(256 * set.l))
+            check(f"{label}: secret in -mu/2 .. mu/2", answer == 0 and all(-half <= x <= half for x in secret))
+            stream = bits(hashlib.shake_128(seed).digest(32 * set.l * set.mu))
+            counted = [sum(stream[i : i + half]) for i in range(0, len(stream), half)]
+            before = [(8192 + first - second) % 8192 for first, second in zip(counted[0::2], counted[1::2])]
+            check(f"{label}: residues", [x % 8192 for x in secret] == before)
+            packed = value([x % 8192 >> i & 1 for x in secret for i in range(13)]).to_bytes(416 * set.l, "little")
+            check(f"{label}: plain secret", packed == entry.sk[: 416 * set.l])
 
 
 def margin():
@@ -251,8 +287,8 @@ def in_place(number):
 
     _, [entries] = run("gen_matrix", number, public_key[-32:], [7] * 256 * l * l)
     A = [[entries[256 * (l * i + j) :][:256] for j in range(l)] for i in range(l)]
-    _, [s] = run("gen_secret", number, seeds[1], [7] * 256 * l)
-    s = [s[256 * i :][:256] for i in range(l)]
+    _, [s] = run("gen_secret", number, seeds[1], lent_signed(256 * l))
+    s = [[x % 8192 for x in s[256 * i :][:256]] for i in range(l)]
     b = [run("unpack", 10, public_key[320 * i :][:320], [7] * 256)[1][0] for i in range(l)]
     check(f"set {number}: s", [run("unpack", 13, secret_key[416 * i :][:416], [7] * 256)[1][0] for i in range(l)] == s)
     for i in range(l):
@@ -261,8 +297,8 @@ def in_place(number):
 
     message, seed = draw(f"selftest message {number}", 32), draw(f"selftest encryption {number}", 32)
     _, [ciphertext] = run("encrypt", number, public_key, message, seed, bytes(set.ciphertext))
-    _, [s1] = run("gen_secret", number, seed, [7] * 256 * l)
-    s1 = [s1[256 * i :][:256] for i in range(l)]
+    _, [s1] = run("gen_secret", number, seed, lent_signed(256 * l))
+    s1 = [[x % 8192 for x in s1[256 * i :][:256]] for i in range(l)]
     b1 = [run("unpack", 10, ciphertext[320 * i :][:320], [7] * 256)[1][0] for i in range(l)]
     for i in range(l):
         exact = plain_inner(A[i], s1)
@@ -298,7 +334,8 @@ def demand_3(number, label):
         size = 32 * width
         return [run("unpack", width, string[i : i + size], [7] * 256)[1][0] for i in range(0, len(string), size)]
 
-    s1 = read(saber.pack(13, run("gen_secret", number, kr[32:], [7] * 256 * set.l)[1][0]), 13)
+    _, [s1] = run("gen_secret", number, kr[32:], lent_signed(256 * set.l))
+    s1 = read(saber.pack(13, saber.modulo(s1, 8192)), 13)
     v = plain_inner(read(ciphertext[: 320 * set.l], 10), read(plain_secret, 13))
     v1 = plain_inner(read(public_key[: 320 * set.l], 10), s1)
     multiples = [8 * (x - y) - n for x, y, n in zip(v, v1, N)]
@@ -366,8 +403,8 @@ def refusals():
             (0, 4, 1), (1, seed[1:], 3), (2, full, 9),
         ),
         "gen_secret": (
-            [1, seed, [0] * 512],
-            (0, 4294967295, 1), (1, seed + b"0", 3), (2, [0] * 511, 9),
+            [1, seed, [-128, 127] * 256],
+            (0, 4294967295, 1), (1, seed + b"0", 3), (2, [127, -128, 0, -4, 4] * 103, 9),
         ),
         **dict.fromkeys(PRODUCTS, (
             [1024, full, full, full],
@@ -522,6 +559,80 @@ def limits():
         check(f"{name} {number}: limits", [*CALLS[name].limits([number]).values()] == values)
 
 
+def spelled(word):
+    """What a word spells as a signed list, read byte by byte; or why it spells none."""
+    if word == b"-":
+        return []
+    numbers, negative, digits, large = [], False, 0, False
+    for byte in word + b",":
+        if byte in b"0123456789":
+            number = byte - 48 if digits == 0 else 10 * number + byte - 48
+            digits += 1
+            large |= number > 127 + negative
+        elif byte in b"-" and not negative and digits == 0:
+            negative = True
+        elif byte in b"," and digits > 0:
+            numbers.append(-number if negative else number)
+            negative, digits = False, 0
+        else:
+            return "bad digit"
+    return "too large" if large else numbers
+
+
+def signed_lists():
+    """Signed lists, stated by hand: what words spell, why others spell none, and how numbers are written."""
+    [output] = CALLS["gen_secret"].outputs
+
+    def read(word):
+        try:
+            return notation.read_word(word, output.role)
+        except notation.Unreadable as reason:
+            return str(reason)
+
+    def write(numbers):
+        return notation.write_word(numbers, output.role)
+
+    long = b"0" * 5000
+    for word, numbers in (
+        (b"-", []), (b"0", [0]), (b"-0", [0]), (b"00", [0]), (b"-00", [0]), (b"4", [4]), (b"-4", [-4]), (b"04", [4]),
+        (b"-004", [-4]), (b"0004", [4]), (b"127", [127]), (b"-128", [-128]), (b"0127", [127]), (b"-0128", [-128]),
+        (b"0,-4,4", [0, -4, 4]), (b"-4,-4", [-4, -4]), (b"-0,0", [0, 0]), (b"-128,127", [-128, 127]),
+        (b"-1,00,1", [-1, 0, 1]), (long, [0]), (b"-" + long + b"128,4", [-128, 4]),
+        (b"0" + b",-5" * 9000, [0] + [-5] * 9000),
+    ):
+        check(f"signed list {word[:40]!r}", read(word) == numbers == spelled(word))
+    for reason, *words in (
+        ("bad digit", b"", b",", b",,", b"0,", b",0", b"0,,0", b"0,-4,", b",0,-4", b"--", b"-,", b",-", b"-,-", b"0,-",
+         b"-,0", b"--4", b"4-", b"4-4", b"0-,4", b"+4", b"+", b"0,+4", b"a", b"0a", b"4.", b"4;4", b"4\t", b"4\r",
+         b"4\0", b"\xff", b"0x4", b" ", b"4 ", b"0, 4", b"128,", b"x,128", b"-129,-", b"9999,,", b"128x", long + b",-"),
+        ("too large", b"128", b"-129", b"0128", b"-0129", b"0,128", b"-129,0", b"255", b"256", b"-256", b"999", b"1000",
+         b"65408", b"65535", b"-65536", b"4294967296", b"18446744073709551615", b"18446744073709551616", b"1" + long,
+         b"-1" + long, long + b"128", b"127,128", b"0" + b",-5" * 9000 + b",128"),
+    ):
+        for word in words:
+            check(f"signed list {word[:40]!r}", read(word) == reason == spelled(word))
+    for numbers, word in (
+        ([], b"-"), ([0], b"0"), ([0, -4, 4], b"0,-4,4"), ([-1], b"-1"), ([-128, 127, 0], b"-128,127,0"), ([10], b"10"),
+        ([100, -100, 99, -99, 9, -9], b"100,-100,99,-99,9,-9"),
+    ):
+        check(f"{numbers} written", write(numbers) == word)
+
+    for x in range(-400, 400):
+        word, padded = b"%d" % x, b"%06d" % x
+        stated = [x] if -128 <= x <= 127 else "too large"
+        check(f"{x} read", read(word) == read(padded) == stated == spelled(word) == spelled(padded))
+    for x in range(-128, 128):
+        check(f"{x} written", write([x]) == b"%d" % x and write([x, x]) == b"%d,%d" % (x, x))
+    for length in (0, 1, 2, 3, 255, 256, 257, 512, 768, 1024, 13104, 32761):
+        numbers = [x - 128 for x in draw(f"selftest signed {length}", length)]
+        word = write(numbers)
+        check(f"{length} numbers written and read", read(word) == numbers == spelled(word))
+        check(f"{length} numbers: commas", word.count(b",") == max(length - 1, 0))
+    for length in range(7):
+        words = map(bytes, itertools.product(b"-,0128+", repeat=length))
+        check(f"every word of {length} of these bytes", all(read(word) == spelled(word) for word in words))
+
+
 def lines():
     """Where lines begin and end; the rest of the notation is tested by requests.py."""
     for requests, answers in (
@@ -537,13 +648,17 @@ def lines():
         (b"public_key_of 4 -\n", b"-\n"),
         (b"shake128 00 -\n", b"0 -\n"),
         (b"read_record - a5\n", b"10 - - - a5\n"),
+        (b"gen_secret 4 - -\n", b"1 -\n"),
+        (b"gen_secret 4 - -\r\n", b"error bad digit\n"),
+        (b"gen_secret 2 - 0,-04,-0,127,-128", b"3 0,-4,0,127,-128\n"),
+        (b"gen_secret 4 - 0,\n4\n", b"error bad digit\nerror unknown call\n"),
     ):
         check(f"lines {requests!r}", notation.answer_lines(requests) == answers)
 
 
 def main():
-    parts = (cases, hashes, random_bytes, packing, ring, splitting, rounding, sampling, margin, small_noise)
-    for part in (*parts, refusals, records, readings, limits, lines):
+    parts = (cases, hashes, random_bytes, packing, ring, splitting, rounding, sampling, weights, residues, margin)
+    for part in (*parts, small_noise, refusals, records, readings, limits, signed_lists, lines):
         part()
     for number in saber.NUMBERS:
         in_place(number)

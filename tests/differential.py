@@ -17,7 +17,7 @@ from drawing import any_content, options, sound_arguments
 
 import notation
 import saber
-from calls import CALLS
+from calls import CALLS, ELEMENTS
 from library import Breach, Library
 
 EDGES = (0, 1, 2, 3, 4, 5, 7, 12, 14, 16, 32, 255, 256, 1000, 1023, 1025, 8191, 8193, 65536, 1 << 31, (1 << 32) - 1)
@@ -44,11 +44,11 @@ def damaged(draw, value):
     return type(value)(changed)
 
 
-def odd_length(draw, value):
+def odd_length(draw, kind, value):
     """The value cut or drawn out, often by one."""
     right = len(value)
     length = draw.choice((0, 1, max(right - 1, 0), right + 1, 2 * right, draw.randrange(right + 65)))
-    return value[:length] + any_content(draw, value[:1] * max(length - right, 0))
+    return value[:length] + any_content(draw, kind, max(length - right, 0))
 
 
 def odd_number(draw):
@@ -57,10 +57,12 @@ def odd_number(draw):
 
 def spoilt(draw, way, call, arguments):
     """The arguments changed in the given way. Outputs are lent with any content, so that a refusal shows."""
-    input_count = len(call.inputs)
-    changed = arguments[:input_count] + [any_content(draw, value) for value in arguments[input_count:]]
-    numbers = [i for i, parameter in enumerate(call.parameters) if parameter.role.kind == "number"]
-    slices = [i for i, parameter in enumerate(call.parameters) if parameter.role.kind in ("bytes", "list")]
+    input_count, kinds = len(call.inputs), [parameter.role.kind for parameter in call.parameters]
+    changed = list(arguments)
+    for i in range(input_count, len(kinds)):
+        changed[i] = any_content(draw, kinds[i], len(changed[i]))
+    numbers = [i for i, kind in enumerate(kinds) if kind == "number"]
+    slices = [i for i, kind in enumerate(kinds) if kind in ELEMENTS]
     inputs = [i for i in slices if i < input_count]
     mixed = way == "mixed"
     if way == "damaged" or mixed and draw.random() < 0.5:
@@ -68,10 +70,10 @@ def spoilt(draw, way, call, arguments):
         changed[i] = damaged(draw, changed[i])
     if way == "any content" or mixed and draw.random() < 0.2:
         i = draw.choice(inputs)
-        changed[i] = any_content(draw, changed[i])
+        changed[i] = any_content(draw, kinds[i], len(changed[i]))
     if way == "odd lengths" or mixed and draw.random() < 0.5:
         for i in draw.sample(slices, draw.choice((1, 1, len(slices)))):
-            changed[i] = odd_length(draw, changed[i])
+            changed[i] = odd_length(draw, kinds[i], changed[i])
     if way == "odd number" or mixed and draw.random() < 0.2:
         for i in numbers:
             changed[i] = odd_number(draw)
@@ -113,8 +115,8 @@ def main():
             if found != expected:
                 print(f"difference at call {i}, {way}. Request:")
                 print(notation.write_request(name, *arguments).decode())
-                print("expected:", notation.write_answer(*expected).decode())
-                print("found:", found if isinstance(found, str) else notation.write_answer(*found).decode())
+                print("expected:", notation.write_answer(name, *expected).decode())
+                print("found:", found if isinstance(found, str) else notation.write_answer(name, *found).decode())
                 return 1
             calls[name] += 1
             ways[way] += 1

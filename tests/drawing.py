@@ -8,7 +8,7 @@ from pathlib import Path
 ROOT = Path(__file__).resolve().parent.parent
 sys.path.insert(0, str(ROOT / "oracle"))
 
-from calls import CALLS
+from calls import CALLS, ELEMENTS
 
 RATES = (168, 136, 72)
 
@@ -25,10 +25,6 @@ def options(title, count, unit, **files):
     return given
 
 
-def coefficients(draw, limit, length):
-    return [draw.randrange(limit) for _ in range(length)]
-
-
 def any_length(draw):
     """A length for a hash: often a byte under, at or over a whole number of blocks."""
     if draw.random() < 0.5:
@@ -41,9 +37,9 @@ def any_number(draw, bits):
     return draw.choice((0, 1, 255, 256, 1 << draw.randrange(bits), (1 << bits) - 1, draw.getrandbits(bits)))
 
 
-def any_content(draw, value):
-    """A string or list of the same length with any content."""
-    return draw.randbytes(len(value)) if isinstance(value, bytes) else coefficients(draw, 1 << 16, len(value))
+def any_content(draw, kind, length, elements=None):
+    """A string or list of so many elements, of any that its kind has or of those that are given."""
+    return draw.randbytes(length) if kind == "bytes" else draw.choices(elements or ELEMENTS[kind], k=length)
 
 
 def sound_record(draw, sets, made):
@@ -73,7 +69,7 @@ def sound_arguments(draw, call, sets=None, made=lambda set: {}):
         else:
             length = role.size(given)
             length = any_length(draw) if length is None else length
-            value = draw.randbytes(length) if role.kind == "bytes" else coefficients(draw, role.limit(given), length)
+            value = any_content(draw, role.kind, length, role.elements(given))
         arguments.append(value)
         if parameter.name == "set":
             values = made(call.given(arguments).set)

@@ -2,11 +2,12 @@
 
     python3 tests/hostile.py [--seed N] [--count N] [--program FILE]
 
-Lines of any bytes, damaged requests, lines about and far beyond 65,536 bytes, no newline at the end, input
-that comes in pieces, and input that is empty, closed or cannot be read. COUNT is how many inputs of each
-random kind are tried. The first difference ends the run with 1.
+Lines of any bytes, damaged requests, damaged signed lists, lines about and far beyond 65,536 bytes, no newline
+at the end, input that comes in pieces, and input that is empty, closed or cannot be read. COUNT is how many
+inputs of each random kind are tried. The first difference ends the run with 1.
 """
 
+import itertools
 import os
 import random
 import subprocess
@@ -19,9 +20,13 @@ import notation
 from calls import CALLS
 
 LIMIT = notation.LONGEST
-NEAR = b"0123456789abcdefABCDEFg- #\t\r\0\xff"
+NEAR = b"0123456789abcdefABCDEFg-,+ #\t\r\0\xff"
 WORDS = b"- -- 00 000 0000 1 2 3 13 0000000000000000001 4294967295 4294967296 99999999999 65535 65536".split()
 WORDS += b"18446744073709551615 18446744073709551616 0c 0c01 0d000003 0f".split()
+WORDS += b"0,-4,4 -4 4,-4 -128,127 128 -129 0, ,0 -,- 0,,0 4- --4 +4 -0".split()
+PIECES = b"0 -0 00 4 -4 04 -004 127 -128 0127 -0128".split()  # of signed lists
+WRONG_PIECES = b"128 -129 0128 -0129 255 -256 65408 4294967168 18446744073709551488 18446744073709551616".split()
+WRONG_PIECES += [b"", *b"- -- --4 4- 4-4 -4- +4 + a 0a 0x4 4.0 4;4 4\0 4\xff".split(b" ")]
 SECONDS = 60
 
 
@@ -64,6 +69,43 @@ def damaged_requests(draw):
     return b"\n".join(lines) + b"\n" * draw.randrange(2)
 
 
+def signed_word(draw):
+    """A signed list, or nearly one: with one or two pieces that are none, with very long digits, or damaged."""
+    count, way = draw.choice((1, 2, 5, 30, 511, 512, 513)), draw.choice(("sound", "wrong pieces", "long", "damaged"))
+    pieces = [draw.choice(PIECES) if draw.random() < 0.3 else b"%d" % draw.randrange(-128, 128) for _ in range(count)]
+    if way == "wrong pieces":
+        for _ in range(draw.choice((1, 2))):
+            pieces[draw.randrange(count)] = draw.choice(WRONG_PIECES)
+    if way == "long":
+        digits = draw.choice((b"0", b"1", b"9")) * draw.randrange(1, 9000) + draw.choice((b"", b"4", b"128"))
+        pieces[draw.randrange(count)] = draw.choice((b"", b"-")) + digits
+    word = b",".join(pieces)
+    return damaged(draw, word) if way == "damaged" else word
+
+
+def signed_lists(draw):
+    """Requests of gen_secret with such words."""
+    words = [signed_word(draw) for _ in range(draw.randrange(1, 12))]
+    starts = [b"gen_secret 1 " + b"5a" * 32, b"gen_secret 1 -", b"gen_secret 4 -"]
+    return b"\n".join(draw.choice(starts) + b" " + word for word in words) + b"\n" * draw.randrange(2)
+
+
+def filled(start, piece, length):
+    """A line of so many bytes that ends in a signed list: 0, with zeros in front as needed, and a piece repeated."""
+    room = length - len(start)
+    return start + (piece * ((room - 1) // len(piece))).rjust(room, b"0")
+
+
+def long_lists(length):
+    """Lines with signed lists: of a piece over and over, one with as many numbers as set 1 takes, and with faults."""
+    refused, sampled = b"gen_secret 4 - ", b"gen_secret 1 " + b"5a" * 32 + b" "
+    for start, piece in itertools.product((refused, sampled), (b",0", b",-4", b",-128", b",128", b",", b",-", b"-")):
+        yield filled(start, piece, length)
+    yield filled(sampled, b",".ljust((length - len(sampled) - 1) // 511, b"0"), length)
+    for first, last in ((b"", b","), (b"", b",128"), (b"", b",-"), (b",", b""), (b"128,", b",x"), (b"-129,", b",-128")):
+        yield filled(refused + first, b",-7", length - len(last)) + last
+
+
 def long_lines():
     """Lines about and far beyond the longest, and a sound one after each."""
     sound = notation.write_request("sha3_256", b"abc", bytes(32))
@@ -71,10 +113,12 @@ def long_lines():
     for length in (LIMIT - 2, LIMIT - 1, LIMIT, LIMIT + 1, LIMIT + 2, 2 * LIMIT, 2 * LIMIT + 1, 16 * LIMIT + 7):
         hashed = b"sha3_256 " + b"a5" * (length // 2 - 37)
         for line in (
+            *(long_lists(length) if length < 2 * LIMIT else ()),
             hashed + digest + b"0" * (length % 2),
             b"shake128 - ".ljust(length, b"7"),
             b"keygen" + b" -" * (length // 2 - 3) + b" " * (length % 2),
             b"pack ".ljust(length, b"0"),
+            b"gen_secret 4 - -".ljust(length, b"0"),
             *(filling * length for filling in (b" ", b"\0", b"\xff", b"-", b"0")),
             b"#".ljust(length, b"x"),
         ):
@@ -172,6 +216,7 @@ def main():
             trial.whole("any bytes", any_bytes(draw))
             trial.whole("any words", any_words(draw))
             trial.whole("damaged requests", damaged_requests(draw))
+            trial.whole("signed lists", signed_lists(draw))
             trial.in_pieces("in pieces", damaged_requests(draw), draw)
     except Difference as difference:
         print(f"difference, {difference}")

@@ -4,12 +4,12 @@
 
 Constants are held to the oracle's sets, functions and their parameters to crates/saber/src/lib.rt, and those to the
 oracle's calls. Nothing may lack and nothing may be there besides. So are the refusals that the header names, and the
-lists of calls in tests/stack.c and tests/secrets.c. Then each text is changed in one number, type or `const`, in the
-order of two parameters or by a declaration, and every change has to be found. It exits with 1 on a difference.
+lists of calls in tests/stack.c and tests/secrets.c. Then each text is changed in one number, sign, type or `const`, in
+the order of two parameters or by a declaration, and every change has to be found. It exits with 1 on a difference.
 
 What is compared are dictionaries. A function has an entry for its result and one for each parameter as C passes it, in
-Rust's words: a slice is a pointer, as `*const u8` or `*mut u16`, and a count. A number that may be missing is a flag
-and the number, and a number that is handed back is lent.
+Rust's words: a slice is a pointer, as `*const u8`, `*mut u16` or `*mut i8`, and a count. A number that may be missing
+is a flag and the number, and a number that is handed back is lent.
 """
 
 import functools
@@ -28,7 +28,7 @@ LIBRARY, HEADER, PACKAGE = "crates/saber/src/lib.rt", "include/saber.h", "bindin
 STACK, SECRETS = "tests/stack.c", "tests/secrets.c"
 NAMES = {number: name.upper() for number, name in saber.NAMES.items()}
 SIZES = ("public_key", "secret_key", "plain_secret", "ciphertext")  # of a set, in bytes
-ELEMENTS = {"bytes": "[u8]", "list": "[u16]"}
+ELEMENTS = {"bytes": "[u8]", "list": "[u16]", "signed": "[i8]"}
 
 
 class Unreadable(Exception):
@@ -129,6 +129,7 @@ def sentences():
         f"the set number is not {listed([0, *saber.SETS])}, or a record's set byte not {listed(saber.SETS)}",
         f"the packing width is not {listed(saber.WIDTHS)}, or the modulus not {listed(saber.MODULI)}",
         f"0 means the same as {saber.DEFAULT}",
+        ", ".join(f"-{set.mu // 2} .. {set.mu // 2} in set {number}" for number, set in saber.SETS.items()),
     ]
 
 
@@ -416,11 +417,16 @@ PARTS = {
 TOKEN = re.compile(r"\b(?:\d+|u?int\d+_t|[ui]\d+|size_t|usize)\b|\*(?:const|mut) |\bconst |&mut |&\[")
 OTHER = {"size_t": "uint32_t", "usize": "u32", "const ": "", "*const ": "*mut ", "*mut ": "*const "}
 OTHER |= {"&mut ": "&", "&[": "&mut ["}
+SIGNS = {"u": "i", "i": "u", "int": "uint", "uint": "int"}
 
 
-def other(token):
-    """Another token of its kind: of a number, or a type with a number in it, the one with the next number."""
-    return OTHER[token] if token in OTHER else re.sub(r"\d+", lambda number: str(int(number[0]) + 1), token)
+def others(token):
+    """Others of its kind: with the next number, if it has a number in it, and with the other sign, if it is a type."""
+    if token in OTHER:
+        return [OTHER[token]]
+    kind, number, rest = re.fullmatch(r"(\D*)(\d+)(\D*)", token).groups()
+    following = f"{kind}{int(number) + 1}{rest}"
+    return [following, SIGNS[kind] + number + rest] if kind in SIGNS else [following]
 
 
 def changes(place, text):
@@ -429,7 +435,8 @@ def changes(place, text):
         start, end = part.span()
         yield text[:start] + text[end:]
         for token in TOKEN.finditer(text, start, end):
-            yield text[: token.start()] + other(token[0]) + text[token.end() :]
+            for other in others(token[0]):
+                yield text[: token.start()] + other + text[token.end() :]
         for group in re.compile(r"\(([^()]*)\)").finditer(text, start, end):
             listed = items(group[1])
             for i in range(1, len(listed)):

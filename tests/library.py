@@ -9,7 +9,7 @@ from calls import CALLS
 
 CODES = {8: "B", 16: "H", 32: "I", 64: "Q"}  # of numbers in memory, by their bits
 TYPES = {8: ctypes.c_uint8, 16: ctypes.c_uint16, 32: ctypes.c_uint32, 64: ctypes.c_uint64}
-ELEMENTS = {"bytes": 8, "list": 16}
+ELEMENTS = {"bytes": "B", "list": "H", "signed": "b"}  # codes too, by the kinds of slices
 
 
 class Breach(Exception):
@@ -21,9 +21,9 @@ class Buffer:
 
     GUARD = bytes(range(64, 128))
 
-    def __init__(self, draw, bits, numbers):
-        self.count, self.form = len(numbers), f"={len(numbers)}{CODES[bits]}"
-        self.before = self.GUARD + bytes(bits // 8 * draw.randrange(16))
+    def __init__(self, draw, code, numbers):
+        self.count, self.form = len(numbers), f"={len(numbers)}{code}"
+        self.before = self.GUARD + bytes(struct.calcsize(f"={code}") * draw.randrange(16))
         self.original = self.before + struct.pack(self.form, *numbers) + self.GUARD
         self.memory = ctypes.create_string_buffer(self.original, len(self.original))
 
@@ -50,7 +50,7 @@ class Lent:
 
     def __init__(self, draw, role):
         bits = [8, role.bits] if role.kind == "optional" else [role.bits]
-        self.buffers = [Buffer(draw, n, [draw.getrandbits(n)]) for n in bits]
+        self.buffers = [Buffer(draw, CODES[n], [draw.getrandbits(n)]) for n in bits]
 
     def pointers(self):
         return [buffer.pointer() for buffer in self.buffers]
@@ -89,9 +89,10 @@ class Library:
         subprocess.run(
             ["cc", "-shared", "-o", shared, "-Wl,--whole-archive", str(archive), "-Wl,--no-whole-archive"], check=True
         )
-        self.functions = ctypes.CDLL(shared)
+        library, self.functions = ctypes.CDLL(shared), {}
         for call in CALLS.values():
             for export in call.exports:
+                self.functions[export] = library[export]  # each look into the library makes a function anew
                 self.functions[export].restype = ctypes.c_uint8 if call.outputs else ctypes.c_size_t
 
     def run(self, draw, call, arguments):

@@ -13,7 +13,7 @@ import sys
 import tempfile
 from collections import Counter
 
-from drawing import any_content, options, sound_arguments
+from drawing import options, sound_arguments
 
 import notation
 import saber
@@ -100,11 +100,11 @@ def calls_of(draw, way):
     [record], [spare] = (WRITE.run(*arguments)[1] for arguments in (entry, other))
     changed = CHANGES[way](draw, record, spare)
     read = [changed, draw.randbytes(output_length(draw, way, changed))]
-    yield WRITE, [*entry[:-1], any_content(draw, record)]
+    yield WRITE, [*entry[:-1], draw.randbytes(len(record))]
     yield READ, read
     answer, values = READ.run(*read)
     if answer == 0:
-        again = [*values, any_content(draw, changed)]
+        again = [*values, draw.randbytes(len(changed))]
         assert WRITE.run(*again) == (0, [changed]), "the oracle writes what it read"
         yield WRITE, again
 
@@ -125,7 +125,7 @@ def through_c(draw, archive, calls):
         library = Library(archive, folder)
         for call, arguments in calls:
             try:
-                yield notation.write_answer(*library.run(draw, call, arguments)).decode()
+                yield notation.write_answer(call.name, *library.run(draw, call, arguments)).decode()
             except Breach as breach:
                 yield str(breach)
 
@@ -140,7 +140,7 @@ def main():
         found = [*calls_of(draw, way)]
         calls += found
         answers[way].update(call.run(*arguments)[0] for call, arguments in found if call is READ)
-    expected = [notation.write_answer(*call.run(*arguments)).decode() for call, arguments in calls]
+    expected = [notation.write_answer(call.name, *call.run(*arguments)).decode() for call, arguments in calls]
     for side, found in (
         ("sabercall", through_program(given.program, calls)),
         ("C", through_c(draw, given.archive, calls)),

@@ -1,6 +1,6 @@
-// A round trip of every set through the C interface, with its ciphertext put into a record and read out of it, and
-// hashes of nothing and to nothing, for valgrind too: each buffer is a block of its own with exactly the bytes needed,
-// and outputs are lent uninitialised.
+// A round trip of every set through the C interface, with the signed secret beside the packed one of the secret key and
+// the ciphertext put into a record and read out of it, and hashes of nothing and to nothing, for valgrind too: each
+// buffer is a block of its own with exactly the bytes needed, and outputs are lent uninitialised.
 #include "check.h"
 #include "sets.h"
 #include <stdio.h>
@@ -46,6 +46,32 @@ static void record_trip(uint32_t number, const uint8_t *ciphertext, size_t ct, u
     free(copy);
 }
 
+// The secret is signed and small; its residues, packed, are the plain secret. A refusal leaves all as it was.
+static void signed_secret(uint32_t number, const uint8_t *seed, const uint8_t *plain_secret) {
+    static const int most[] = {4, 5, 4, 3}; // mu/2, by set number
+    const size_t count = SABER_N * sets[number].rank, packed_count = sets[number].plain_secret / sets[number].rank;
+    int8_t *secret = (int8_t *)block(count);
+    uint8_t *packed = block(packed_count);
+    CHECK(saber_gen_secret(number, seed, SEED, secret, count) == SABER_OK);
+    for (size_t start = 0; start < count; start += SABER_N) {
+        uint16_t residues[SABER_N];
+        for (size_t i = 0; i < SABER_N; i++) {
+            int coefficient = secret[start + i];
+            CHECK(-most[number] <= coefficient && coefficient <= most[number]);
+            residues[i] = (uint16_t)(coefficient < 0 ? coefficient + 8192 : coefficient);
+        }
+        CHECK(saber_pack(13, residues, SABER_N, packed, packed_count) == SABER_OK);
+        CHECK(memcmp(packed, plain_secret + packed_count * (start / SABER_N), packed_count) == 0);
+    }
+    memset(secret, INT8_MIN, count);
+    CHECK(saber_gen_secret(number, seed, SEED - 1, secret, count) == SABER_SEED_LENGTH);
+    CHECK(saber_gen_secret(number, seed, SEED, secret, count - 1) == SABER_OUTPUT_LENGTH);
+    for (size_t i = 0; i < count; i++)
+        CHECK(secret[i] == INT8_MIN);
+    free(secret);
+    free(packed);
+}
+
 static void round_trip(uint32_t number) {
     const size_t pk = sets[number].public_key, sk = sets[number].secret_key, ct = sets[number].ciphertext;
     const size_t plain = sets[number].plain_secret;
@@ -58,6 +84,7 @@ static void round_trip(uint32_t number) {
     CHECK(saber_encaps(number, public_key, pk, seed, SEED, ciphertext, ct, sent, SECRET) == SABER_OK);
     CHECK(saber_decaps(number, secret_key, sk, ciphertext, ct, received, SECRET) == SABER_OK);
     CHECK(memcmp(sent, received, SECRET) == 0);
+    signed_secret(number, secret_seed, secret_key);
     record_trip(number, ciphertext, ct, 0);
     record_trip(number, ciphertext, ct, 1);
 
@@ -89,7 +116,7 @@ static void round_trip(uint32_t number) {
                          ciphertext,  sent,        received, message, hashed,     hashed_last};
     for (size_t i = 0; i < sizeof blocks / sizeof *blocks; i++)
         free(blocks[i]);
-    printf("%u %s: round trip, records\n", (unsigned)number, sets[number].name);
+    printf("%u %s: round trip, signed secret, records\n", (unsigned)number, sets[number].name);
 }
 
 // SHA3-256 of no bytes, the first of NIST's vectors.

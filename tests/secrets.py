@@ -5,7 +5,8 @@
 Runs tests/secrets.c, which marks content as secret, under memcheck for each set number. Prints each jump and each
 address that depends on a mark: the function of the archive in which it stands (one that was compiled into another
 counts as that one), its places there in bytes, and the reason why it may stand. It exits with 1 where a place is
-not listed, where a listed one is not found, and where a call that writes something is not run.
+not listed, where a listed one is not found in a set that it is listed for, and where a call that writes something is
+not run.
 """
 
 import shutil
@@ -27,6 +28,7 @@ KINDS = {"UninitCondition": "jump", "UninitValue": "address"}
 RUN = {name for name, call in CALLS.items() if call.outputs}  # a lookup reads no content
 
 Q8 = "Q8 asks about each coefficient (questions::all_below), so the answer follows from the content"
+TABLE = "where mu = 8, a secret's coefficient is read from A4's table of 256 weights, at the byte that is sampled"
 CONTROL = "a control, which has to be found"
 
 # How many places of a kind a function has, and why.
@@ -37,6 +39,9 @@ LISTED = {
     ("jump", "saber_recon_data"): (1, Q8),
     ("jump", "saber_recover"): (2, Q8),
     ("jump", "saber_round"): (1, Q8),
+    ("address", "pke::encrypt_with"): (1, TABLE),
+    ("address", "saber_gen_secret"): (1, TABLE),
+    ("address", "saber_keygen"): (1, TABLE),
     ("jump", "control_jump"): (1, CONTROL),
     ("address", "control_address"): (1, CONTROL),
 }
@@ -61,10 +66,12 @@ def memcheck(program, set_number):
     return places, calls
 
 
-def differences(places, calls):
-    """What a run has otherwise than the list and the table of calls."""
+def differences(set_number, places, calls):
+    """What the run of a set has otherwise than the list and the table of calls."""
     for key in sorted(LISTED.keys() | places.keys()):
-        count, _ = LISTED.get(key, (0, ""))
+        count, reason = LISTED.get(key, (0, ""))
+        if reason is TABLE and saber.NUMBERS[set_number].mu != 8:
+            count = 0
         if len(places[key]) != count:
             yield f"{' in '.join(key)}: {count} listed, found at {sorted(places[key])}, reports of {dict(+calls)}"
     if calls.keys() != RUN:
@@ -87,7 +94,7 @@ def main():
     with tempfile.TemporaryDirectory() as folder:
         program = linked("secrets", folder)
         runs = [memcheck(program, set_number) for set_number in saber.NUMBERS]
-    wrong = [f"secrets, set {i}, {line}" for i, run in enumerate(runs) for line in differences(*run)]
+    wrong = [f"secrets, set {i}, {line}" for i, run in enumerate(runs) for line in differences(i, *run)]
     wrong += [f"secrets, {name}: Q8 and the list differ" for name in sorted(asked_content() ^ listed_content())]
     if wrong:
         print(*wrong, sep="\n")

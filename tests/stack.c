@@ -11,7 +11,8 @@ enum { OWN = 64 }; // bytes at the top for the frames of this program itself
 
 static uint8_t seeds[4][32], public_key[FIRESABER_PUBLIC_KEY_BYTES], secret_key[FIRESABER_SECRET_KEY_BYTES];
 static uint8_t ciphertext[FIRESABER_CIPHERTEXT_BYTES], message[32], bytes[416], digest[64];
-static uint16_t matrix[16 * SABER_N], secret[4 * SABER_N], a[SABER_N], b[SABER_N], c[SABER_N];
+static uint16_t matrix[16 * SABER_N], a[SABER_N], b[SABER_N], c[SABER_N];
+static int8_t secret[4 * SABER_N];
 static uint8_t record[12 + FIRESABER_CIPHERTEXT_BYTES], has_door, has_time;
 static uint16_t door;
 static uint64_t hour;
@@ -27,12 +28,12 @@ static uint32_t number;
     DO(decrypt, SET, secret_key, FIRESABER_PLAIN_SECRET_BYTES, ALL(ciphertext), ALL(message))      \
     DO(gen_matrix, SET, ALL(seeds[0]), ALL(matrix))                                                \
     DO(gen_secret, SET, ALL(seeds[1]), ALL(secret))                                                \
-    DO(poly_mul, 8192, matrix, SABER_N, secret, SABER_N, ALL(a))                                   \
-    DO(poly_mul_karatsuba, 8192, matrix, SABER_N, secret, SABER_N, ALL(a))                         \
+    DO(poly_mul, 8192, matrix, SABER_N, matrix + SABER_N, SABER_N, ALL(a))                         \
+    DO(poly_mul_karatsuba, 8192, matrix, SABER_N, matrix + SABER_N, SABER_N, ALL(a))               \
     DO(round, ALL(a), ALL(b))                                                                      \
     DO(recon_data, SET, ALL(b), ALL(c))                                                            \
     DO(recover, SET, ALL(b), ALL(c), ALL(a))                                                       \
-    DO(pack, 13, secret, SABER_N, ALL(bytes))                                                      \
+    DO(pack, 13, matrix, SABER_N, ALL(bytes))                                                      \
     DO(unpack, 13, ALL(bytes), ALL(a))                                                             \
     DO(shake128, ALL(secret_key), ALL(bytes))                                                      \
     DO(sha3_256, ALL(secret_key), digest, 32)                                                      \

@@ -128,8 +128,10 @@ calls! {
     decrypt = saber_decrypt [set] (plain_secret: u8, ciphertext: u8) => (message: u8);
     /// The matrix of a seed: 256 x rank x rank coefficients below 8192, row by row.
     gen_matrix = saber_gen_matrix [set] (seed: u8) => (matrix: u16);
-    /// The secret of a seed: 256 x rank coefficients, modulo 8192.
-    gen_secret = saber_gen_secret [set] (seed: u8) => (secret: u16);
+    /// The secret of a seed: 256 x rank signed coefficients, in -mu/2 .. mu/2: -5 .. 5 in set 1, -4 .. 4 in set 2, -3 .. 3 in set 3. No
+    /// residue is written: who packs or multiplies coefficients first adds the modulus to each negative one, 8192, or 1024 for a product
+    /// modulo 1024.
+    gen_secret = saber_gen_secret [set] (seed: u8) => (secret: i8);
     /// The product of two polynomials below the modulus, 1024 or 8192, where X to the 256 is -1.
     poly_mul = saber_poly_mul [modulus] (a: u16, b: u16) => (product: u16);
     /// The same product as [`poly_mul`], made by splitting its factors into halves.

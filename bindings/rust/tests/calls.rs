@@ -75,6 +75,30 @@ fn refusals_leave_outputs_alone() {
     assert_eq!(list, [0xa5a5; N]);
 }
 
+// Signed and small; the residues, packed, are the plain secret of a secret key.
+#[test]
+fn secrets_are_signed() {
+    for (number, set, most) in [(0, SABER, 4), (1, LIGHTSABER, 5), (2, SABER, 4), (3, FIRESABER, 3)] {
+        let mut secret = vec![i8::MIN; N * set.rank];
+        assert_eq!(saber::gen_secret(number, &[2; SEED], &mut secret), Ok(()));
+        assert_eq!((secret.iter().min(), secret.iter().max()), (Some(&-most), Some(&most)));
+        let mut plain_secret = vec![];
+        for polynomial in secret.chunks(N) {
+            let residues: Vec<u16> = polynomial.iter().map(|&x| i16::from(x).rem_euclid(8192) as u16).collect();
+            let mut packed = [0; 416];
+            assert_eq!(saber::pack(13, &residues, &mut packed), Ok(()));
+            plain_secret.extend(packed);
+        }
+        assert_eq!(plain_secret, keys(number, set).secret[..set.plain_secret]);
+
+        let mut lent = vec![i8::MIN; N * set.rank];
+        assert_eq!(saber::gen_secret(4, &[2; SEED], &mut lent), Err(Refusal::UnknownSet));
+        assert_eq!(saber::gen_secret(number, &[2; 31], &mut lent), Err(Refusal::SeedLength));
+        assert_eq!(saber::gen_secret(number, &[2; SEED], &mut lent[1..]), Err(Refusal::OutputLength));
+        assert_eq!(lent, vec![i8::MIN; N * set.rank]);
+    }
+}
+
 // Times X to the place: coefficients move up, and those that pass X to the 255 change their sign.
 #[test]
 fn products_by_monomials() {

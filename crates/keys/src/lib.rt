@@ -59,7 +59,7 @@ fn keygen_with(
     ensures { λ _. ⌜ KeyPair p (now («matrix_seed» .entry)) (now («secret_seed» .entry)) (now (z .entry))
         (now («public_key» .exit)) (now («secret_key» .exit)) ⌝ }
 {
-    sampling::secret_into(p.l, p.mu, secret_seed, secret);
+    sampling::secret_residues_into(p.l, p.mu, secret_seed, secret);
     public_key_into(p.l, matrix_seed, secret, public_key);
     secret_key_into(p.l, secret, public_key, z, secret_key);
 }

@@ -54,7 +54,7 @@ pub fn encrypt_with(
     let key = p.pk;
     let end = p.ct;
     let mut v = [0u16; 256];
-    sampling::secret_into(p.l, p.mu, seed, secret);
+    sampling::secret_residues_into(p.l, p.mu, seed, secret);
     exchange::both_into(
         p.l,
         &public_key[e..key],

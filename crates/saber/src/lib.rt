@@ -104,9 +104,9 @@ pub extern "C" fn saber_gen_matrix(set: u32, seed: &[u8], matrix: &mut [u16]) ->
     sampling::gen_matrix(set, seed, matrix)
 }
 
-// The secret from its seed: Q1, Q3, Q9.
+// The secret from its seed, signed: Q1, Q3, Q9.
 #[no_mangle]
-pub extern "C" fn saber_gen_secret(set: u32, seed: &[u8], secret: &mut [u16]) -> u8
+pub extern "C" fn saber_gen_secret(set: u32, seed: &[u8], secret: &mut [i8]) -> u8
     ensures { λ r. ⌜ GenSecret set (now (seed .entry)) (now (secret .entry)) r (now (secret .exit)) ⌝ }
 {
     sampling::gen_secret(set, seed, secret)

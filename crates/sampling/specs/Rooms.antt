@@ -1,6 +1,7 @@
 -- What the inner forms ask.
 use Prim.Native.Nat.{ℕ, _*_, _%_, _<_, _≤_}
 use mathlib.Core.Path.{_≡_}
+use Rattle.packing.specs.Rooms.{Fills}
 
 -- `matrix_into`: no more rows than its buffer has bytes for, and a place for each coefficient
 pub record MatrixRoom (l out : ℕ) : Type 0 where
@@ -13,8 +14,19 @@ pub record Pieces (mu : ℕ) : Type 0 where
   pub most : mu ≤ 16
   pub even : mu % 2 ≡ 0
 
--- `secret_into`: no more bytes than its buffer has, and a place for each coefficient
+-- `sample_into`: numbers of mu bits in two pieces fill the bytes, one for each of up to 1024 places; `count_with`: with a place for each number
+pub record SampleRoom (mu bytes out : ℕ) : Type 0 where
+  pub cut : Fills mu out bytes
+  pub even : mu % 2 ≡ 0
+  pub few : out ≤ 1024
+
+pub record CountSpace (mu bytes numbers out : ℕ) : Type 0 where
+  pub room : SampleRoom mu bytes out
+  pub numbersLong : numbers ≡ out
+
+-- `secret_into`: no more polynomials and bytes than its buffers have places for, and a place for each coefficient
 pub record SecretRoom (l mu out : ℕ) : Type 0 where
   pub pieces : Pieces mu
-  pub few : 32 * l * mu ≤ 768
+  pub few : l ≤ 4
+  pub bytes : 32 * l * mu ≤ 768
   pub places : out ≡ 256 * l

@@ -1,5 +1,5 @@
 -- Document 01, "Ring and sampling": the matrix and the secret that a seed gives, and what the two calls ask.
-use Prim.Native.Nat.{ℕ, _*_, _/_, _%_, _^_}
+use Prim.Native.Nat.{ℕ, _*_, _/_}
 use mathlib.Core.List.{List, [], _∷_}
 use lib.Count.{ones}
 use lib.Dec.{eqb}
@@ -7,7 +7,6 @@ use lib.IntN.{ℤ, pos, _-ℤ_}
 use Rattle.questions.specs.Answers.{Question}
 use Rattle.sets.specs.Sets.{paramsOf, known}
 use Rattle.packing.specs.Packing.{unpacked}
-use Rattle.algebra.specs.Integers.{modℤ}
 use Rattle.sha3.specs.Hashes.{shake128}
 
 -- the matrix of l rows: SHAKE-128 of its seed, cut into 13-bit numbers, row by row, coefficient 0 first
@@ -20,17 +19,13 @@ differences [] = []
 differences (a ∷ []) = []
 differences (a ∷ b ∷ ps) = (pos (ones a) -ℤ pos (ones b)) ∷ differences ps
 
--- the coefficients that bytes give, cut into pieces of mu/2 bits; before the modulus
+-- the coefficients that bytes give, cut into pieces of mu/2 bits
 unfoldable pub secretOf : ℕ → List ℕ → List ℤ
 secretOf mu bytes = differences (unpacked (mu / 2) bytes)
 
--- the secret of l polynomials: SHAKE-128 of its seed, 32 × l × mu bytes; before the modulus
+-- the secret of l polynomials: SHAKE-128 of its seed, 32 × l × mu bytes
 unfoldable pub secret : ℕ → ℕ → List ℕ → List ℤ
 secret l mu seed = secretOf mu (shake128 seed (32 * l * mu))
-
--- how the code samples, from a number of 2 h bits: the ones of its h low bits less those above them, modulo 8192
-abbrev pub weighed : ℕ → ℕ → ℕ
-weighed h x = modℤ (pos (ones (x % 2 ^ h)) -ℤ pos (ones (x / 2 ^ h))) 8192
 
 -- what the matrix call and secret sampling ask: Q1, Q3, Q9
 abbrev pub genMatrixQuestions : ℕ → ℕ → ℕ → List Question

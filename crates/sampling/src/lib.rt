@@ -1,16 +1,14 @@
 // Sampling: the matrix and the secret from their seeds.
 ghost use mathlib.Core.Path.{_≡_};
-ghost use mathlib.Core.List.{map};
-ghost use Prim.Native.Nat.{_≤_};
 ghost use lib.ListN.{length};
 ghost use Rattle.questions.specs.Answers.{earliest};
 ghost use Rattle.algebra.specs.Ring.{residues};
 ghost use Rattle.packing.specs.Packing.{unpacked};
 ghost use Rattle.packing.specs.Rooms.{Fills};
 ghost use Rattle.sha3.specs.Hashes.{shake128};
-ghost use Rattle.sampling.specs.Sampling.{matrix, secret, weighed, genMatrixQuestions, genSecretQuestions};
+ghost use Rattle.sampling.specs.Sampling.{matrix, secretOf, secret, genMatrixQuestions, genSecretQuestions};
 ghost use Rattle.sampling.specs.Promises.{GenMatrix, GenSecret};
-ghost use Rattle.sampling.specs.Rooms.{MatrixRoom, SecretRoom};
+ghost use Rattle.sampling.specs.Rooms.{MatrixRoom, SampleRoom, CountSpace, SecretRoom};
 use questions::ask;
 use sets::set_params;
 
@@ -23,28 +21,6 @@ fn expand(width: u32, seed: &[u8], buffer: &mut [u8], numbers: &mut [u16])
     packing::unpack_into(width, buffer, numbers);
 }
 
-// The ones of the low piece of a number, the first one, less those of the piece above it, modulo 8192.
-fn weigh(half: u32, x: u16) -> u16
-    requires { ⌜ half ≤ 8 ⌝ }
-    ensures { λ r. ⌜ r ≡ weighed half x ⌝ }
-{
-    let low = u16::count_ones(x % (1u16 << half));
-    let high = u16::count_ones(x >> half);
-    ((low + (8192 - high)) % 8192) as u16
-}
-
-// Weighs each number, in its place.
-fn weigh_all(half: u32, numbers: &mut [u16])
-    requires { ⌜ half ≤ 8 ⌝ }
-    ensures { λ _. ⌜ now (numbers .exit) ≡ map (weighed half) (now (numbers .entry)) ⌝ }
-{
-    let mut i = 0;
-    while i < numbers.len() {
-        numbers[i] = weigh(half, numbers[i]);
-        i += 1;
-    }
-}
-
 // The matrix of l rows of l polynomials, as one flat list.
 pub fn matrix_into(l: usize, seed: &[u8], output: &mut [u16])
     requires { ⌜ MatrixRoom l (length (now output)) ⌝ }
@@ -55,16 +31,65 @@ pub fn matrix_into(l: usize, seed: &[u8], output: &mut [u16])
     expand(13, seed, &mut buffer[0..n], output);
 }
 
-// The secret of l polynomials, as one flat list: a number of mu bits has the two pieces of a coefficient.
-pub fn secret_into(l: usize, mu: usize, seed: &[u8], output: &mut [u16])
+// The coefficients that bytes give, by counting: a number of mu bits has the two pieces of one. The caller lends the places for the numbers.
+fn count_with(mu: u32, bytes: &[u8], numbers: &mut [u16], output: &mut [i8])
+    requires { ⌜ CountSpace mu (length (now bytes)) (length (now numbers)) (length (now output)) ⌝ }
+    ensures { λ _. ⌜ now (output .exit) ≡ secretOf mu (now (bytes .entry)) ⌝ }
+{
+    packing::unpack_into(mu, bytes, numbers);
+    weights::weigh_numbers(mu / 2, numbers, output);
+}
+
+// The coefficients that bytes give. A number of 8 bits is a byte, which the table weighs.
+fn sample_into(mu: u32, bytes: &[u8], output: &mut [i8])
+    requires { ⌜ SampleRoom mu (length (now bytes)) (length (now output)) ⌝ }
+    ensures { λ _. ⌜ now (output .exit) ≡ secretOf mu (now (bytes .entry)) ⌝ }
+{
+    if mu == 8 {
+        weights::weigh_bytes(bytes, output);
+        return;
+    }
+    let mut numbers = [0u16; 1024];
+    let n = output.len();
+    count_with(mu, bytes, &mut numbers[0..n], output);
+}
+
+// The coefficients from SHAKE-128 of a seed, as many bytes as the buffer has.
+fn secret_with(mu: u32, seed: &[u8], buffer: &mut [u8], output: &mut [i8])
+    requires { ⌜ SampleRoom mu (length (now buffer)) (length (now output)) ⌝ }
+    ensures { λ _. ⌜ now (output .exit) ≡ secretOf mu (shake128 (now (seed .entry)) (length (now (buffer .entry)))) ⌝ }
+{
+    sha3::shake128_into(seed, buffer);
+    sample_into(mu, buffer, output);
+}
+
+// The secret of l polynomials, as one flat list of signed numbers.
+pub fn secret_into(l: usize, mu: usize, seed: &[u8], output: &mut [i8])
     requires { ⌜ SecretRoom l mu (length (now output)) ⌝ }
-    ensures { λ _. ⌜ now (output .exit) ≡ residues 8192 (secret l mu (now (seed .entry))) ⌝ }
+    ensures { λ _. ⌜ now (output .exit) ≡ secret l mu (now (seed .entry)) ⌝ }
 {
     let mut buffer = [0u8; 768];
     let n = 32 * l * mu;
-    let width = mu as u32;
-    expand(width, seed, &mut buffer[0..n], output);
-    weigh_all(width / 2, output);
+    secret_with(mu as u32, seed, &mut buffer[0..n], output);
+}
+
+// The same secret modulo 8192, as it is packed and multiplied; the caller lends the places for the signed numbers.
+fn secret_residues_with(l: usize, mu: usize, seed: &[u8], signed: &mut [i8], output: &mut [u16])
+    requires { ⌜ SecretRoom l mu (length (now signed)) × (length (now output) ≡ length (now signed)) ⌝ }
+    ensures { λ _. ⌜ now (output .exit) ≡ residues 8192 (secret l mu (now (seed .entry))) ⌝ }
+{
+    secret_into(l, mu, seed, signed);
+    weights::residues_into(signed, output);
+}
+
+// The same, with places of its own.
+pub fn secret_residues_into(l: usize, mu: usize, seed: &[u8], output: &mut [u16])
+    requires { ⌜ SecretRoom l mu (length (now output)) ⌝ }
+    ensures { λ _. ⌜ now (output .exit) ≡ residues 8192 (secret l mu (now (seed .entry))) ⌝ }
+{
+    let mut signed = [0i8; 1024];
+    let n = 256 * l;
+    secret_residues_with(l, mu, seed, &mut signed[0..n], output);
 }
 
 fn gen_matrix_answer(set: u32, seed: usize, matrix: usize) -> u8
@@ -96,8 +121,8 @@ pub fn gen_matrix(set: u32, seed: &[u8], matrix: &mut [u16]) -> u8
     0
 }
 
-// The secret from its seed: Q1, Q3, Q9.
-pub fn gen_secret(set: u32, seed: &[u8], secret: &mut [u16]) -> u8
+// The secret from its seed, signed: Q1, Q3, Q9.
+pub fn gen_secret(set: u32, seed: &[u8], secret: &mut [i8]) -> u8
     ensures { λ r. ⌜ GenSecret set (now (seed .entry)) (now (secret .entry)) r (now (secret .exit)) ⌝ }
 {
     let r = gen_secret_answer(set, seed.len(), secret.len());

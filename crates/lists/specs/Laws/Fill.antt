@@ -13,32 +13,33 @@ use Rattle.lists.specs.Laws.Lists.{from-at, from-cong, from-add, length-
 use Rattle.lists.specs.Laws.Parts.{put-long, put-next}
 
 -- of the n elements of l the first i are f 0, .., f (i - 1)
-pub record Filled (n : ℕ) (l : List ℕ) (i : ℕ) (f : ℕ → ℕ) : Type 0 where
+pub record Filled {A : Type 0} (n : ℕ) (l : List A) (i : ℕ) (f : ℕ → A) : Type 0 where
   pub size : length l ≡ n
   pub within : i ≤ n
-  pub at : (k : ℕ) → k < i → getD l k 0 ≡ f k
+  pub at : (d : A) (k : ℕ) → k < i → getD l k d ≡ f k
 
-pub fill-none : {n : ℕ} {l : List ℕ} {f : ℕ → ℕ} → length l ≡ n → Filled n l 0 f
-fill-none e = record { size = e; within = omega arith; at = λ k h. absurd (omega arith) }
+pub fill-none : {A : Type 0} {n : ℕ} {l : List A} {f : ℕ → A} → length l ≡ n → Filled n l 0 f
+fill-none e = record { size = e; within = omega arith; at = λ d k h. absurd (omega arith) }
 
-pub fill-more : {n i v : ℕ} {l : List ℕ} {f : ℕ → ℕ} → i < n → Filled n l i f → v ≡ f i → Filled n (set l i v) (i + 1) f
-fill-more {n} {i} {v} {l} {f} hi h e =
-    record { size = length-set l i v ∙ h .size; within = omega arith; at = λ k hk. go k hk (decLt k i) }
+pub fill-more :
+    {A : Type 0} {n i : ℕ} {v : A} {l : List A} {f : ℕ → A} → i < n → Filled n l i f → v ≡ f i → Filled n (set l i v) (i + 1) f
+fill-more {A} {n} {i} {v} {l} {f} hi h e =
+    record { size = length-set l i v ∙ h .size; within = omega arith; at = λ d k hk. go d k hk (decLt k i) }
   where
-    go : (k : ℕ) → k < i + 1 → Dec (k < i) → getD (set l i v) k 0 ≡ f k
-    go k hk (yes p) = getD-set-other l i k v 0 (λ q. omega arith) ∙ h .at k p
-    go k hk (no q) =
+    go : (d : A) (k : ℕ) → k < i + 1 → Dec (k < i) → getD (set l i v) k d ≡ f k
+    go d k hk (yes p) = getD-set-other l i k v d (λ q. omega arith) ∙ h .at d k p
+    go d k hk (no q) =
         let s : i ≡ k = omega arith in
-        ap (λ (j : ℕ). getD (set l i v) j 0) (sym s) ∙ getD-set-same l i v 0 (omega (arith, h .size)) ∙ e ∙ ap f s
+        ap (λ (j : ℕ). getD (set l i v) j d) (sym s) ∙ getD-set-same l i v d (omega (arith, h .size)) ∙ e ∙ ap f s
 
-pub fill-all : {n i : ℕ} {l : List ℕ} {f : ℕ → ℕ} → n ≤ i → Filled n l i f → l ≡ from n f
-fill-all {n} {i} {l} {f} hi h =
-    ext-getD 0 l (from n f) (h .size ∙ sym (length-from n f))
-    (λ k hk. h .at k (omega (arith, h .size)) ∙ sym (from-at n f 0 k (omega (arith, h .size))))
+pub fill-all : {A : Type 0} {n i : ℕ} {l : List A} {f : ℕ → A} → n ≤ i → Filled n l i f → l ≡ from n f
+fill-all {A} {n} {i} {l} {f} hi h =
+    ext-getD (f 0) l (from n f) (h .size ∙ sym (length-from n f))
+    (λ k hk. h .at (f 0) k (omega (arith, h .size)) ∙ sym (from-at n f (f 0) k (omega (arith, h .size))))
 
 -- where the elements are those of another list, and where they are those of one of two
 fill-list : {n i : ℕ} {l s : List ℕ} → n ≤ i → length s ≡ n → Filled n l i (λ k. getD s k 0) → l ≡ s
-fill-list {l = l} {s} hi e h = ext-getD 0 l s (h .size ∙ sym e) (λ k hk. h .at k (omega (arith, h .size)))
+fill-list {l = l} {s} hi e h = ext-getD 0 l s (h .size ∙ sym e) (λ k hk. h .at 0 k (omega (arith, h .size)))
 
 pub fill-chosen :
     (flag : Bool) (a b : List ℕ) {n i : ℕ} {l : List ℕ} → length a ≡ n → length b ≡ n → n ≤ i →
@@ -50,7 +51,7 @@ fill-chosen false a b la lb hi h = fill-list hi lb h
 pub fill-front : {n i : ℕ} {l : List ℕ} {f : ℕ → ℕ} → Filled n l i f → take i l ≡ from i f
 fill-front {n} {i} {l} {f} h =
     ext-getD 0 (take i l) (from i f) (e ∙ sym (length-from i f))
-    (λ k hk. let p : k < i = omega (arith, e) in getD-take i l k 0 p ∙ h .at k p ∙ sym (from-at i f 0 k p))
+    (λ k hk. let p : k < i = omega (arith, e) in getD-take i l k 0 p ∙ h .at 0 k p ∙ sym (from-at i f 0 k p))
   where
     e : length (take i l) ≡ i
     e = length-take-le i l (omega (arith, h .size, h .within))
@@ -63,7 +64,7 @@ fill-part {n} {a} {e} {s} {y} {f} {g} h l w q same =
     record {
       size = put-long a e s y h fits long ∙ w .size;
       within = l;
-      at = λ i hi. sym (getD-take e _ i 0 hi) ∙ ap (λ (t : List ℕ). getD t i 0) front ∙ from-at e f 0 i hi;
+      at = λ d i hi. sym (getD-take e _ i d hi) ∙ ap (λ (t : List ℕ). getD t i d) front ∙ from-at e f d i hi;
     }
   where
     fits : e ≤ length s

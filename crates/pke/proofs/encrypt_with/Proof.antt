@@ -24,7 +24,7 @@ returns c =
     let both =
     prefix-part {a = n} {e = a .p .ct} (y .last .1 .1 .1 .0) first (omega arith) (omega (arith, room .ctLong)) (y .kept .1 .1 .1 .0) in
     prefix-all both (omega (arith, room .ctLong))
-    ∙ encrypt-steps _ _ _ _ (search first-part) (search (last-part, room .pkLong)) (after-secret .secret-into .ensures) (x .ensures .0)
+    ∙ encrypt-steps _ _ _ _ (search first-part) (search (last-part, room .pkLong)) (after-secret .secret-residues-into .ensures) (x .ensures .0)
     (x .ensures .1) (y .ensures)
 
 pub encrypt-with-spec : {M : Type 1} → statement M

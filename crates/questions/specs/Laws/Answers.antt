@@ -53,8 +53,8 @@ refused zero result old h = absurd (h refl)
 refused (suc r) result old h = refl
 
 -- a call with one output that works, and one that refuses
-pub wrote : {a r : ℕ} {result old new : List ℕ} → r ≡ a → r ≡ 0 → new ≡ result → Wrote a result old 0 new
+pub wrote : {A : Type 0} {a r : ℕ} {result old new : A} → r ≡ a → r ≡ 0 → new ≡ result → Wrote a result old 0 new
 wrote e z w = record { answers = sym z ∙ e; writes = w }
 
-pub wrote-none : {a r : ℕ} {result old : List ℕ} → r ≡ a → (r ≡ 0 → ⊥) → Wrote a result old r old
-wrote-none {a} {r} {result} {old} e h = record { answers = e; writes = refused r result old h }
+pub wrote-none : {A : Type 0} {a r : ℕ} {result old : A} → r ≡ a → (r ≡ 0 → ⊥) → Wrote a result old r old
+wrote-none {A} {a} {r} {result} {old} e h = record { answers = e; writes = refused r result old h }

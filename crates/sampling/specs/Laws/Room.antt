@@ -3,6 +3,7 @@ use Prim.Native.Nat.{ℕ, _*_}
 use mathlib.Core.List.{List}
 use mathlib.Core.Path.{_≡_, refl}
 use native.Mathlib.Omega.{arith}
+use lib.IntN.{ℤ}
 use lib.ListN.{length}
 use borrow.Author.Needs.{needs}
 use borrow.Author.Tests.{eqb-true}
@@ -12,22 +13,32 @@ use Rattle.sets.specs.declared.Params.{Params}
 use Rattle.sets.specs.Sets.{paramsOf}
 use Rattle.sets.specs.Laws.Rows.{row}
 use Rattle.packing.specs.Rooms.{Fills}
-use Rattle.algebra.specs.Ring.{residues}
 use Rattle.sampling.specs.Sampling.{matrix, secret, genMatrixQuestions, genSecretQuestions}
 use Rattle.sampling.specs.Promises.{GenMatrix, GenSecret}
-use Rattle.sampling.specs.Rooms.{MatrixRoom, SecretRoom}
+use Rattle.sampling.specs.Rooms.{MatrixRoom, SampleRoom, CountSpace, SecretRoom}
 
 -- the places of a secret are numbers of mu bits that fill its bytes
-pub secret-fills : (l mu out n : ℕ) → SecretRoom l mu out → n ≡ 32 * l * mu → Fills mu out n
-secret-fills l mu out n r e = record {
-  least = r .pieces .least;
-  most = r .pieces .most;
-  fills = rw (r .places, e) (omega arith);
-  fours = rw e (omega arith);
+pub sample-room : (l mu out n : ℕ) → SecretRoom l mu out → n ≡ 32 * l * mu → SampleRoom mu n out
+sample-room l mu out n r e = record {
+  cut = record {
+    least = r .pieces .least;
+    most = r .pieces .most;
+    fills = rw (r .places, e) (omega arith);
+    fours = rw e (omega arith);
+  };
+  even = r .pieces .even;
+  few = omega (arith, r .places, r .few);
 }
 
-module _ (set : ℕ) (seed out : List ℕ) {r : ℕ} {p : Params} (is : p ≡ paramsOf set) (z : r ≡ 0) where
-  module _ (a : r ≡ earliest (genMatrixQuestions set (length seed) (length out))) where
+-- the numbers of `count_with` fill its bytes, and bytes that `sample_into` weighs by the table have a place each
+pub count-cut : {mu bytes numbers out : ℕ} → CountSpace mu bytes numbers out → Fills mu numbers bytes
+count-cut s = rw (s .numbersLong) (s .room .cut)
+
+pub byte-places : {mu bytes out : ℕ} → SampleRoom mu bytes out → mu ≡ 8 → out ≡ bytes
+byte-places r e = let filled = rw e at (r .cut .fills) in omega arith
+
+module _ (set : ℕ) (seed : List ℕ) {r : ℕ} {p : Params} (is : p ≡ paramsOf set) (z : r ≡ 0) where
+  module _ (out : List ℕ) (a : r ≡ earliest (genMatrixQuestions set (length seed) (length out))) where
     pub matrix-room : MatrixRoom (p .l) (length out)
     matrix-room =
         let y = all-yes (genMatrixQuestions set (length seed) (length out)) refl a z in
@@ -37,12 +48,12 @@ module _ (set : ℕ) (seed out : List ℕ) {r : ℕ} {p : Params} (is : p ≡ pa
     pub matrix-done : {out' : List ℕ} → out' ≡ matrix (p .l) seed → GenMatrix set seed out 0 out'
     matrix-done e = wrote a z (rw is at e)
 
-  module _ (a : r ≡ earliest (genSecretQuestions set (length seed) (length out))) where
+  module _ (out : List ℤ) (a : r ≡ earliest (genSecretQuestions set (length seed) (length out))) where
     pub secret-room : SecretRoom (p .l) (p .mu) (length out)
     secret-room =
         let y = all-yes (genSecretQuestions set (length seed) (length out)) refl a z in
         let w = row set (y .0) in
         rw is (search (needs, eqb-true))
 
-    pub secret-done : {out' : List ℕ} → out' ≡ residues 8192 (secret (p .l) (p .mu) seed) → GenSecret set seed out 0 out'
+    pub secret-done : {out' : List ℤ} → out' ≡ secret (p .l) (p .mu) seed → GenSecret set seed out 0 out'
     secret-done e = wrote a z (rw is at e)

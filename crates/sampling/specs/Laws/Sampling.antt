@@ -1,22 +1,20 @@
 -- Laws of the matrix and the secret: how many numbers there are, their bounds, and the two lists as the code makes them.
-use Prim.Native.Nat.{ℕ, zero, suc, _-_, _*_, _/_, _^_, _<_, _≤_}
-use mathlib.Core.Bool.{Bool, true, false, cond}
-use mathlib.Core.List.{List, [], _∷_, map}
-use mathlib.Core.Path.{_≡_, refl, sym, ap, _∙_}
+use Prim.Native.Nat.{ℕ, zero, suc, _*_, _/_, _^_, _≤_}
+use mathlib.Core.List.{List, [], _∷_}
+use mathlib.Core.Path.{_≡_, ap, _∙_}
 use native.Mathlib.Omega.{arith}
 use lib.Count.{ones, ones-le}
-use lib.Dec.{ltb}
-use lib.IntN.{pos, negsuc, natAbs, _-ℤ_}
+use lib.IntN.{natAbs}
 use lib.ListN.{length, length-map}
-use borrow.Author.Tests.{ltb-true}
 use Rattle.lists.specs.Numbers.{Below}
 use Rattle.packing.specs.Packing.{unpacked}
 use Rattle.packing.specs.Laws.Packing.{recut-length, recut-below}
-use Rattle.algebra.specs.Integers.{modℤ}
-use Rattle.algebra.specs.Ring.{at, residues}
+use Rattle.algebra.specs.Ring.{at}
+use Rattle.weights.specs.Weights.{weighed}
+use Rattle.weights.specs.Laws.Weights.{sub-bound}
 use Rattle.sponge.specs.Laws.Sponge.{length-sponge}
 use Rattle.sha3.specs.Hashes.{shake128}
-use Rattle.sampling.specs.Sampling.{matrix, differences, secretOf, secret, weighed}
+use Rattle.sampling.specs.Sampling.{matrix, differences, secretOf, secret}
 use Rattle.sampling.specs.Rooms.{Pieces}
 use Rattle.sampling.specs.Laws.Halves.{secret-weighed}
 
@@ -36,31 +34,20 @@ pub matrix-cut : (l : ℕ) (seed : List ℕ) (n : ℕ) → n ≡ 416 * l * l →
 unfolding matrix
 matrix-cut l seed n e = rw e
 
--- the secret: numbers of mu bits cut from n bytes and weighed, 256 l of them
-module _ (l mu : ℕ) (seed : List ℕ) (p : Pieces mu) where
-  filled : 8 * length (shake128 seed (32 * l * mu)) ≡ mu * (256 * l)
-  filled = rw length-sponge (omega arith)
+-- the secret: 256 l numbers, cut from n bytes
+pub secret-cut : (l mu : ℕ) (seed : List ℕ) (n : ℕ) → n ≡ 32 * l * mu → secretOf mu (shake128 seed n) ≡ secret l mu seed
+unfolding secret
+secret-cut l mu seed n e = rw e
 
-  pub secret-cut :
-      (n : ℕ) → n ≡ 32 * l * mu → map (weighed (mu / 2)) (unpacked mu (shake128 seed n)) ≡ residues 8192 (secret l mu seed)
-  unfolding secret
-  secret-cut n e = rw e (sym (secret-weighed mu (256 * l) (shake128 seed (32 * l * mu)) (p .least) (p .even) filled))
-
-  pub length-secret : length (secret l mu seed) ≡ 256 * l
-  length-secret =
-      let bytes = shake128 seed (32 * l * mu) in
-      sym (length-map (secret l mu seed) (λ z. modℤ z 8192)) ∙ ap length (sym (secret-cut (32 * l * mu) refl))
-      ∙ length-map (unpacked mu bytes) (weighed (mu / 2)) ∙ recut-length 8 mu (256 * l) bytes (p .least) filled
+pub length-secret : (l mu : ℕ) (seed : List ℕ) → Pieces mu → length (secret l mu seed) ≡ 256 * l
+unfolding secret
+length-secret l mu seed p =
+    let bytes = shake128 seed (32 * l * mu) in
+    let filled : 8 * length bytes ≡ mu * (256 * l) = rw length-sponge (omega arith) in
+    ap length (secret-weighed mu (256 * l) bytes (p .least) (p .even) filled) ∙ length-map (unpacked mu bytes) (weighed (mu / 2))
+    ∙ recut-length 8 mu (256 * l) bytes (p .least) filled
 
 -- each coefficient lies in -mu/2 .. mu/2
-sub-bound : (h x y : ℕ) → x ≤ h → y ≤ h → natAbs (pos x -ℤ pos y) ≤ h
-sub-bound h x zero p q = omega arith
-sub-bound h x (suc y) p q = go (ltb x (suc y)) (ltb-true x (suc y))
-  where
-    go : (c : Bool) → (c ≡ true → x < suc y) → natAbs (cond c (negsuc (suc y - suc x)) (pos (x - suc y))) ≤ h
-    go true l = let r = l refl in omega arith
-    go false l = omega arith
-
 differences-bound : (h : ℕ) (ps : List ℕ) → Below (2 ^ h) ps → (k : ℕ) → natAbs (at (differences ps) k) ≤ h
 unfolding differences
 differences-bound h [] b k = omega arith

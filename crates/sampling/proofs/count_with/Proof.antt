@@ -1,0 +1,28 @@
+-- `sampling::count_with` meets its contract: the numbers of mu bits, weighed.
+use Prim.Native.Nat.{_/_}
+use mathlib.Core.List.{map}
+use mathlib.Core.Path.{sym, ap, _∙_}
+use native.Mathlib.Omega.{arith}
+use borrow.Author.Needs.{needs}
+use lib.ListN.{length}
+use Rattle.weights.specs.Weights.{weighed}
+use Rattle.sampling.specs.Laws.Halves.{secret-weighed}
+use Rattle.sampling.specs.Laws.Room.{count-cut}
+use Rattle.sampling.proofs.count_with.Statement.{statement}
+use Rattle.sampling.proofs.count_with.Tie as tie
+
+pub count-with-spec : {M : Type 1} → statement M
+count-with-spec =
+    tie.close
+    (tie.spec
+    (λ c κs. search count-cut)
+    (λ c κs. search needs)
+    (λ c. search needs)
+    (λ c. search needs)
+    (λ c.
+    let cut = c .before .before .before .before .before .before in
+    let start = cut .before .before .before .before in
+    let room = start .pre .room in
+    let mu = start .args .mu in
+    c .before .weigh-numbers .ensures ∙ ap (map (weighed (mu / 2))) (cut .unpack-into .ensures)
+    ∙ sym (secret-weighed mu (length (start .args .output .now)) (start .args .bytes .now) (room .cut .least) (room .even) (sym (room .cut .fills)))))

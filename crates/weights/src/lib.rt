@@ -1,0 +1,72 @@
+// Weights: what a coefficient of a secret is, from a number of bits in two pieces; and signed numbers modulo 8192.
+ghost use mathlib.Core.List.{map};
+ghost use mathlib.Core.Path.{_≡_};
+ghost use Prim.Native.Nat.{_≤_};
+ghost use lib.ListN.{length};
+ghost use Rattle.algebra.specs.Integers.{modℤ};
+ghost use Rattle.algebra.specs.Ring.{residues};
+ghost use Rattle.weights.specs.Weights.{weighed};
+use table::WEIGHTS;
+
+mod table;
+
+// The weight of a byte, by the table.
+fn weigh_byte(b: u8) -> i8
+    ensures { λ r. ⌜ r ≡ weighed 4 b ⌝ }
+{
+    WEIGHTS[b as usize]
+}
+
+// The ones of the low piece of a number, the first one, less those of the piece above it.
+fn weigh(half: u32, x: u16) -> i8
+    requires { ⌜ half ≤ 8 ⌝ }
+    ensures { λ r. ⌜ r ≡ weighed half x ⌝ }
+{
+    let low = u16::count_ones(x % (1u16 << half));
+    let high = u16::count_ones(x >> half);
+    (low as i8) - (high as i8)
+}
+
+// Weighs bytes by the table.
+pub // The weight of a byte, by the table.
+fn weigh_bytes(bytes: &[u8], output: &mut [i8])
+    requires { ⌜ length (now output) ≡ length (now bytes) ⌝ }
+    ensures { λ _. ⌜ now (output .exit) ≡ map (weighed 4) (now (bytes .entry)) ⌝ }
+{
+    let mut i = 0;
+    while i < output.len() {
+        output[i] = weigh_byte(bytes[i]);
+        i += 1;
+    }
+}
+
+// Weighs numbers of two pieces of `half` bits by counting.
+pub fn weigh_numbers(half: u32, numbers: &[u16], output: &mut [i8])
+    requires { ⌜ (half ≤ 8) × (length (now output) ≡ length (now numbers)) ⌝ }
+    ensures { λ _. ⌜ now (output .exit) ≡ map (weighed half) (now (numbers .entry)) ⌝ }
+{
+    let mut i = 0;
+    while i < output.len() {
+        output[i] = weigh(half, numbers[i]);
+        i += 1;
+    }
+}
+
+// A signed number modulo 8192, with no branch on its sign.
+fn residue(z: i8) -> u16
+    ensures { λ r. ⌜ r ≡ modℤ z 8192 ⌝ }
+{
+    ((z as i16 + 8192) as u16) % 8192
+}
+
+// Signed numbers modulo 8192, as they are packed and multiplied.
+pub fn residues_into(signed: &[i8], output: &mut [u16])
+    requires { ⌜ length (now output) ≡ length (now signed) ⌝ }
+    ensures { λ _. ⌜ now (output .exit) ≡ residues 8192 (now (signed .entry)) ⌝ }
+{
+    let mut i = 0;
+    while i < output.len() {
+        output[i] = residue(signed[i]);
+        i += 1;
+    }
+}
