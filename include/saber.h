@@ -22,6 +22,8 @@
 //       }
 //
 //   or run the calls on a stack of your own and erase that.
+// - SET 2 READS A TABLE OF 256 BYTES AT PLACES THAT SECRET BYTES DECIDE, in saber_keygen, saber_encaps, saber_decaps, saber_encrypt and
+//   saber_gen_secret. Who can watch the processor's cache learns something of them. Sets 1 and 3 have no such address.
 #ifndef SABER_H
 #define SABER_H
 

@@ -39,9 +39,7 @@ LISTED = {
     ("jump", "saber_recon_data"): (1, Q8),
     ("jump", "saber_recover"): (2, Q8),
     ("jump", "saber_round"): (1, Q8),
-    ("address", "pke::encrypt_with"): (1, TABLE),
-    ("address", "saber_gen_secret"): (1, TABLE),
-    ("address", "saber_keygen"): (1, TABLE),
+    ("address", "sampling::secret_into"): (4, TABLE),
     ("jump", "control_jump"): (1, CONTROL),
     ("address", "control_address"): (1, CONTROL),
 }

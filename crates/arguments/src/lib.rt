@@ -1,9 +1,11 @@
 // The arguments of a request, read from its line, and the printing of answers.
-ghost use Prim.Native.Nat.{_<_};
+ghost use Prim.Native.Nat.{_≤_, _<_};
+ghost use lib.ListN.{length};
 use notation::Bytes;
 use notation::List;
 use notation::Optional;
 use notation::Shape;
+use notation::Signed;
 use notation::Step;
 use notation::Text;
 use records::Door;
@@ -28,10 +30,11 @@ pub struct Numbers {
     pub number: u32,
 }
 
-// The numbers of a request, where its other arguments stand in the bytes, and what is wrong with the line.
+// The numbers of a request, where its other arguments stand in the bytes, how many signed numbers it has, and what is wrong with the line.
 pub struct Arguments {
     pub numbers: Numbers,
     pub ends: Ends,
+    pub signed: usize,
     pub fault: u8,
 }
 
@@ -79,7 +82,15 @@ fn narrow(x: usize) -> u32 {
 }
 
 // Reads the arguments that a call takes, from a place of the line on.
-pub fn read(shape: Shape, line: &[u8], at: usize, bytes: &mut Bytes) -> Arguments {
+pub fn read(
+    shape: Shape,
+    line: &[u8],
+    at: usize,
+    bytes: &mut Bytes,
+    signed: &mut Signed,
+) -> Arguments
+    requires { ⌜ length (now line) ≤ 65536 ⌝ }
+{
     let start = Step {
         value: 0,
         next: at,
@@ -101,6 +112,12 @@ pub fn read(shape: Shape, line: &[u8], at: usize, bytes: &mut Bytes) -> Argument
         k += 1;
         ends[k] = next.value;
     }
+    let hex = Step {
+        value: 0,
+        next: step.next,
+        fault: step.fault,
+    };
+    let last = notation::read_signed(shape.signed_outputs > 0, line, hex, signed);
     let d = door.number;
     let t = time.number;
     Arguments {
@@ -110,7 +127,8 @@ pub fn read(shape: Shape, line: &[u8], at: usize, bytes: &mut Bytes) -> Argument
             number: narrow(number.value),
         },
         ends,
-        fault: notation::finish(line, step),
+        signed: last.value,
+        fault: notation::finish(line, last),
     }
 }
 
@@ -145,13 +163,18 @@ pub fn fill(
     notation::list_into(part(bytes, ends, 7), result);
 }
 
-// The first n bytes of a buffer, or all of it, and the same of a list.
+// The first n bytes of a buffer, or all of it, and the same of lists.
 pub fn front(bytes: &[u8], n: usize) -> &[u8] {
     let end = notation::least(n, bytes.len());
     &bytes[0..end]
 }
 
 pub fn list_front(list: &[u16], n: usize) -> &[u16] {
+    let end = notation::least(n, list.len());
+    &list[0..end]
+}
+
+pub fn signed_front(list: &[i8], n: usize) -> &[i8] {
     let end = notation::least(n, list.len());
     &list[0..end]
 }
@@ -173,6 +196,14 @@ fn print_output(wanted: bool, bytes: &[u8], text: &mut Text) {
     }
 }
 
+fn print_signed(wanted: bool, list: &[i8], text: &mut Text) {
+    if wanted {
+        print(b" ");
+        let n = notation::signed_into(list, text);
+        print(front(text, n));
+    }
+}
+
 // Prints an answer and every output, the list by way of bytes.
 pub fn print_answer(
     shape: Shape,
@@ -180,6 +211,7 @@ pub fn print_answer(
     output: &[u8],
     extra: &[u8],
     result: &[u16],
+    signed: &[i8],
     spare: &mut Bytes,
     text: &mut Text,
 ) {
@@ -188,6 +220,7 @@ pub fn print_answer(
     print_output(shape.byte_outputs > 1, extra, text);
     let n = notation::bytes_into(result, spare);
     print_output(shape.list_outputs > 0, front(spare, n), text);
+    print_signed(shape.signed_outputs > 0, signed, text);
 }
 
 // Prints a space and then a number, a door or a time, which is `-` where it is missing.

@@ -71,6 +71,7 @@ fn entry(
         lists,
         byte_outputs,
         list_outputs,
+        signed_outputs: 0,
     };
     let request = Request::Call(call);
     select(found, asked, name, Row { request, shape })
@@ -94,7 +95,23 @@ fn byte_entry(
         lists: 0,
         byte_outputs,
         list_outputs: 0,
+        signed_outputs: 0,
     };
+    select(found, asked, name, Row { request, shape })
+}
+
+// The row of a call with a number and a byte string, whose output is a signed list.
+fn signed_entry(found: Found, asked: &[u8], name: &[u8], call: Call) -> Found {
+    let shape = Shape {
+        optionals: 0,
+        numbers: 1,
+        strings: 1,
+        lists: 0,
+        byte_outputs: 0,
+        list_outputs: 0,
+        signed_outputs: 1,
+    };
+    let request = Request::Call(call);
     select(found, asked, name, Row { request, shape })
 }
 
@@ -106,6 +123,7 @@ pub fn row_of(name: &[u8]) -> Found {
     let f = byte_entry(f, name, b"read_record", Request::ReadRecord, 0, 0, 1, 1);
     let write = Request::Call(Call::WriteRecord);
     let f = byte_entry(f, name, b"write_record", write, 2, 1, 1, 1);
+    let f = signed_entry(f, name, b"gen_secret", Call::GenSecret);
     // name, numbers, byte strings, lists, byte outputs, list outputs
     let f = entry(f, name, b"keygen", Call::Keygen, 1, 3, 0, 2, 0);
     let f = entry(f, name, b"encaps", Call::Encaps, 1, 2, 0, 2, 0);
@@ -113,7 +131,6 @@ pub fn row_of(name: &[u8]) -> Found {
     let f = entry(f, name, b"encrypt", Call::Encrypt, 1, 3, 0, 1, 0);
     let f = entry(f, name, b"decrypt", Call::Decrypt, 1, 2, 0, 1, 0);
     let f = entry(f, name, b"gen_matrix", Call::GenMatrix, 1, 1, 0, 0, 1);
-    let f = entry(f, name, b"gen_secret", Call::GenSecret, 1, 1, 0, 0, 1);
     let f = entry(f, name, b"poly_mul", Call::PolyMul, 1, 0, 2, 0, 1);
     let karatsuba = Call::PolyMulKaratsuba;
     let f = entry(f, name, b"poly_mul_karatsuba", karatsuba, 1, 0, 2, 0, 1);
@@ -139,6 +156,7 @@ pub fn make_call(
     output: &mut [u8],
     extra: &mut [u8],
     result: &mut [u16],
+    signed: &mut [i8],
 ) -> u8 {
     let door = numbers.door;
     let time = numbers.time;
@@ -150,7 +168,7 @@ pub fn make_call(
         Call::Encrypt => pke::encrypt(number, first, second, third, output),
         Call::Decrypt => pke::decrypt(number, first, second, output),
         Call::GenMatrix => sampling::gen_matrix(number, first, result),
-        Call::GenSecret => sampling::gen_secret(number, first, result),
+        Call::GenSecret => sampling::gen_secret(number, first, signed),
         Call::PolyMul => ring::poly_mul(number, left, right, result),
         Call::PolyMulKaratsuba => karatsuba::poly_mul_karatsuba(number, left, right, result),
         Call::Round => rounding::round(left, result),

@@ -1,15 +1,18 @@
 // The notation of requests and their answers: words with one space between; decimal numbers; bytes as hex pairs; numbers of 16 bits as
-// four hex digits; `-` for an empty string or list and for a missing number. What has no room in a buffer is left out; the contracts speak
-// of places alone.
+// four hex digits; signed numbers as decimals with commas between; `-` for an empty string or list and for a missing number. What has no
+// room in a buffer is left out; the contracts speak of places alone. What decimals spell is promised in `decimals`.
 ghost use Prim.Native.Nat.{_≤_, _<_};
 ghost use lib.ListN.{length};
 
-// A line has at most 65,536 bytes. These hold what its words spell, and the digits that spell as much.
+// A line has at most 65,536 bytes. These hold what its words spell, and the text that spells as much: two digits a byte, and at most four
+// bytes and a comma a signed number.
 pub type Bytes = [u8; 32768];
 
 pub type List = [u16; 16384];
 
-pub type Text = [u8; 65536];
+pub type Signed = [i8; 32768];
+
+pub type Text = [u8; 163840];
 
 // How many arguments of each kind a call takes, in the order in which they stand.
 pub struct Shape {
@@ -19,21 +22,22 @@ pub struct Shape {
     pub lists: usize,
     pub byte_outputs: usize,
     pub list_outputs: usize,
+    pub signed_outputs: usize,
 }
 
 // What is wrong with a line, or nothing.
-pub const SOUND: u8 = 0;
+pub const SOUND: u8 = decimals::SOUND;
 
 pub const WRONG_COUNT: u8 = 1;
 
-pub const BAD_DIGIT: u8 = 2;
+pub const BAD_DIGIT: u8 = decimals::BAD_DIGIT;
 
 pub const ODD_COUNT: u8 = 3;
 
-pub const TOO_LARGE: u8 = 4;
+pub const TOO_LARGE: u8 = decimals::TOO_LARGE;
 
-// What reading gave: the number, or how many bytes were read up to here; where the next word starts, past the line's end where there is
-// none; and what is wrong up to there.
+// What reading gave: the number, or how many bytes or signed numbers were read up to here; where the next word starts, past the line's end
+// where there is none; and what is wrong up to there.
 pub struct Step {
     pub value: usize,
     pub next: usize,
@@ -77,54 +81,6 @@ fn digit_value(b: u8) -> u8 {
     }
 }
 
-// A decimal number with one digit more, too large above `most`.
-fn append(number: Step, digit: u8, most: usize) -> Step {
-    let value = number.value;
-    let d = digit as usize;
-    if value <= most / 10 {
-        if d <= most - value * 10 {
-            return Step {
-                value: value * 10 + d,
-                next: number.next,
-                fault: number.fault,
-            };
-        }
-    }
-    Step {
-        value,
-        next: number.next,
-        fault: TOO_LARGE,
-    }
-}
-
-// A word as a decimal number up to `most`, with the place of the word after it.
-fn decimal_of(word: &[u8], most: usize, next: usize) -> Step {
-    let bad = Step {
-        value: 0,
-        next,
-        fault: BAD_DIGIT,
-    };
-    if word.len() == 0 {
-        return bad;
-    }
-    let mut number = Step {
-        value: 0,
-        next,
-        fault: SOUND,
-    };
-    let mut i = 0;
-    while i < word.len() {
-        let digit = digit_value(word[i]);
-        if digit > 9 {
-            return bad;
-        }
-        let longer = append(number, digit, most);
-        number = longer;
-        i += 1;
-    }
-    number
-}
-
 // Reads the next word as a number up to `most`, where one is wanted and nothing is wrong yet.
 pub fn read_number(wanted: bool, most: usize, line: &[u8], from: Step) -> Step {
     let at = from.next;
@@ -139,7 +95,12 @@ pub fn read_number(wanted: bool, most: usize, line: &[u8], from: Step) -> Step {
         };
     }
     let end = word_end(line, at);
-    decimal_of(&line[at..end], most, end + 1)
+    let number = decimals::decimal_of(&line[at..end], most);
+    Step {
+        value: number.value,
+        next: end + 1,
+        fault: number.fault,
+    }
 }
 
 // Reads the next word as a number that is missing where the word is `-`.
@@ -216,6 +177,30 @@ pub fn read_hex(wanted: bool, digits: usize, line: &[u8], from: Step, bytes: &mu
         value: least(from.value + (end - at) / 2, 32768),
         next: end + 1,
         fault,
+    }
+}
+
+// Reads the next word as signed numbers, where one is wanted and nothing is wrong yet, and says how many they are.
+pub fn read_signed(wanted: bool, line: &[u8], from: Step, list: &mut Signed) -> Step
+    requires { ⌜ length (now line) ≤ 65536 ⌝ }
+{
+    let at = from.next;
+    if !wanted | (from.fault != SOUND) {
+        return from;
+    }
+    if at > line.len() {
+        return Step {
+            value: 0,
+            next: at,
+            fault: WRONG_COUNT,
+        };
+    }
+    let end = word_end(line, at);
+    let numbers = decimals::signed_of(&line[at..end], list);
+    Step {
+        value: numbers.value,
+        next: end + 1,
+        fault: numbers.fault,
     }
 }
 
@@ -297,4 +282,10 @@ pub fn bytes_into(list: &[u16], bytes: &mut Bytes) -> usize {
         i += 1;
     }
     2 * n
+}
+
+// Writes signed numbers as a word, and says how long it is.
+pub fn signed_into(list: &[i8], text: &mut Text) -> usize {
+    let n = least(list.len(), 32768);
+    decimals::signed_into(&list[0..n], text)
 }

@@ -1,4 +1,6 @@
 // Requests: a line is read, the call that it names is made, and its reply is printed.
+ghost use Prim.Native.Nat.{_≤_};
+ghost use lib.ListN.{length};
 use arguments::Arguments;
 use calls::Call;
 use calls::Found;
@@ -7,6 +9,7 @@ use calls::Row;
 use notation::Bytes;
 use notation::List;
 use notation::Shape;
+use notation::Signed;
 use notation::Text;
 
 // Makes a call and prints its answer. A list or an output is the front of its buffer.
@@ -20,6 +23,7 @@ fn answer_call(
     output: &mut [u8],
     extra: &mut [u8],
     result: &mut [u16],
+    signed: &mut [i8],
     spare: &mut Bytes,
     text: &mut Text,
 ) {
@@ -27,6 +31,7 @@ fn answer_call(
     let o = notation::least(arguments::part(bytes, ends, 5).len(), output.len());
     let p = notation::least(arguments::part(bytes, ends, 6).len(), extra.len());
     let q = notation::least(arguments::part(bytes, ends, 7).len() / 2, result.len());
+    let r = notation::least(a.signed, signed.len());
     let answer = calls::make_call(
         call,
         a.numbers,
@@ -38,6 +43,7 @@ fn answer_call(
         &mut output[0..o],
         &mut extra[0..p],
         &mut result[0..q],
+        &mut signed[0..r],
     );
     arguments::print_answer(
         shape,
@@ -45,6 +51,7 @@ fn answer_call(
         arguments::front(output, o),
         arguments::front(extra, p),
         arguments::list_front(result, q),
+        arguments::signed_front(signed, r),
         spare,
         text,
     );
@@ -70,6 +77,7 @@ fn reply(
     output: &mut Bytes,
     extra: &mut Bytes,
     result: &mut List,
+    signed: &mut Signed,
     spare: &mut Bytes,
     text: &mut Text,
 ) {
@@ -90,6 +98,7 @@ fn reply(
             output,
             extra,
             result,
+            signed,
             spare,
             text,
         ),
@@ -109,22 +118,29 @@ fn list_buffer() -> List {
     [0; 16384]
 }
 
+fn signed_buffer() -> Signed {
+    [0; 32768]
+}
+
 fn text_buffer() -> Text {
-    [0; 65536]
+    [0; 163840]
 }
 
 // Answers a request whose arguments start at a place of the line.
-fn answer_request(row: Row, line: &[u8], at: usize) {
+fn answer_request(row: Row, line: &[u8], at: usize)
+    requires { ⌜ length (now line) ≤ 65536 ⌝ }
+{
     let mut bytes = byte_buffer();
     let mut left = list_buffer();
     let mut right = list_buffer();
     let mut output = byte_buffer();
     let mut extra = byte_buffer();
     let mut result = list_buffer();
+    let mut signed = signed_buffer();
     let mut spare = byte_buffer();
     let mut text = text_buffer();
     let shape = row.shape;
-    let a = arguments::read(shape, line, at, &mut bytes);
+    let a = arguments::read(shape, line, at, &mut bytes, &mut signed);
     reply(
         row,
         a,
@@ -134,6 +150,7 @@ fn answer_request(row: Row, line: &[u8], at: usize) {
         &mut output,
         &mut extra,
         &mut result,
+        &mut signed,
         &mut spare,
         &mut text,
     );

@@ -10,11 +10,17 @@ use table::WEIGHTS;
 
 mod table;
 
-// The weight of a byte, by the table.
-fn weigh_byte(b: u8) -> i8
-    ensures { λ r. ⌜ r ≡ weighed 4 b ⌝ }
+// Weighs bytes by the table.
+pub fn weigh_bytes(bytes: &[u8], output: &mut [i8])
+    requires { ⌜ length (now output) ≡ length (now bytes) ⌝ }
+    ensures { λ _. ⌜ now (output .exit) ≡ map (weighed 4) (now (bytes .entry)) ⌝ }
 {
-    WEIGHTS[b as usize]
+    let table = WEIGHTS;
+    let mut i = 0;
+    while i < output.len() {
+        output[i] = table[bytes[i] as usize];
+        i += 1;
+    }
 }
 
 // The ones of the low piece of a number, the first one, less those of the piece above it.
@@ -25,19 +31,6 @@ fn weigh(half: u32, x: u16) -> i8
     let low = u16::count_ones(x % (1u16 << half));
     let high = u16::count_ones(x >> half);
     (low as i8) - (high as i8)
-}
-
-// Weighs bytes by the table.
-pub // The weight of a byte, by the table.
-fn weigh_bytes(bytes: &[u8], output: &mut [i8])
-    requires { ⌜ length (now output) ≡ length (now bytes) ⌝ }
-    ensures { λ _. ⌜ now (output .exit) ≡ map (weighed 4) (now (bytes .entry)) ⌝ }
-{
-    let mut i = 0;
-    while i < output.len() {
-        output[i] = weigh_byte(bytes[i]);
-        i += 1;
-    }
 }
 
 // Weighs numbers of two pieces of `half` bits by counting.

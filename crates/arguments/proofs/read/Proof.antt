@@ -8,8 +8,8 @@ pub read-spec : {M : Type 1} → statement M
 read-spec =
     tie.close
     (tie.spec
-    (λ shape line at bytes₀ door time number ends₀ step₀ k₀ bytes ends step k. (k ≤ 8) × (step .value ≤ 32768))
-    (λ shape line at bytes₀ door time number ends₀ step₀ k₀ bytes ends step k. 8 - k)
+    (λ shape line at bytes₀ signed door time number ends₀ step₀ k₀ bytes ends step k. (k ≤ 8) × (step .value ≤ 32768))
+    (λ shape line at bytes₀ signed door time number ends₀ step₀ k₀ bytes ends step k. 8 - k)
     (λ c κs. search needs)
     (λ c κs. search needs)
     (λ c κs. search needs)
@@ -22,6 +22,7 @@ read-spec =
     (λ c. search needs)
     (λ c. search needs)
     (λ c. search needs)
+    (λ c κs. search needs)
     (λ c κs. search needs)
     (λ c κs. search needs)
     (λ c κs. search needs)

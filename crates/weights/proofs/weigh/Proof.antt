@@ -14,9 +14,20 @@ use Rattle.weights.specs.Laws.Weights.{sub-bound}
 use Rattle.weights.proofs.weigh.Statement.{statement}
 use Rattle.weights.proofs.weigh.Tie as tie
 
-narrow : (z : ℤ) → natAbs z ≤ 16 → SFits w8 z
-narrow (pos n) h = record { sfits = omega arith }
-narrow (negsuc n) h = record { sfits = omega arith }
+-- the difference of two counts, each cast to an `i8`
+module _ {x y : ℕ} (p : x ≤ 16) (q : y ≤ 16) where
+  difference : toZ w8 x -ℤ toZ w8 y ≡ pos x -ℤ pos y
+  difference = ap₂ _-ℤ_ (toZ-pos w8 {n = x} (omega arith)) (toZ-pos w8 {n = y} (omega arith))
+
+  fits : SFits w8 (toZ w8 x -ℤ toZ w8 y)
+  fits = subst (SFits w8) (sym difference) (narrow _ (sub-bound 16 x y p q))
+    where
+      narrow : (z : ℤ) → natAbs z ≤ 16 → SFits w8 z
+      narrow (pos n) h = record { sfits = omega arith }
+      narrow (negsuc n) h = record { sfits = omega arith }
+
+  value : toZ w8 (ofZ w8 (toZ w8 x -ℤ toZ w8 y)) ≡ pos x -ℤ pos y
+  value = toZ-ofZ fits ∙ difference
 
 module _ (c : tie.Start) where
   base : 1 * 2 ^ c .args .half % 2 ^ 16 ≡ 2 ^ c .args .half
@@ -25,23 +36,11 @@ module _ (c : tie.Start) where
   few : (n : ℕ) → n ≤ c .args .x → ones n ≤ 16
   few n h = ones-le 16 n (lt-of-le-of-lt h (c .fits .x .fits))
 
-  abbrev low : ℕ
-  low = ones (c .args .x % (1 * 2 ^ c .args .half % 2 ^ 16))
+  low : ones (c .args .x % (1 * 2 ^ c .args .half % 2 ^ 16)) ≤ 16
+  low = few _ (mod-le (c .args .x) (1 * 2 ^ c .args .half % 2 ^ 16))
 
-  abbrev high : ℕ
-  high = ones (c .args .x / 2 ^ c .args .half)
-
-  low-few : low ≤ 16
-  low-few = few _ (mod-le (c .args .x) (1 * 2 ^ c .args .half % 2 ^ 16))
-
-  high-few : high ≤ 16
-  high-few = few _ (div-le-self (c .args .x) (2 ^ c .args .half))
-
-  difference : toZ w8 low -ℤ toZ w8 high ≡ pos low -ℤ pos high
-  difference = ap₂ _-ℤ_ (toZ-pos w8 {n = low} (omega (arith, low-few))) (toZ-pos w8 {n = high} (omega (arith, high-few)))
-
-  fits : SFits w8 (pos low -ℤ pos high)
-  fits = narrow _ (sub-bound 16 low high low-few high-few)
+  high : ones (c .args .x / 2 ^ c .args .half) ≤ 16
+  high = few _ (div-le-self (c .args .x) (2 ^ c .args .half))
 
 pub weigh-spec : {M : Type 1} → statement M
 weigh-spec =
@@ -52,9 +51,8 @@ weigh-spec =
     (λ c. rw (base c) (pow-pos (c .args .half)))
     (λ c. search needs)
     (λ c. search needs)
-    (λ c. record { sfits = omega (arith, low-few c) })
-    (λ c. record { sfits = omega (arith, high-few c) })
-    (λ c. subst (SFits w8) (sym (difference c)) (fits c))
+    (λ c. record { sfits = omega (arith, low c, high c) })
+    (λ c. record { sfits = omega (arith, low c, high c) })
+    (λ c. search (fits, low c, high c))
     (λ c.
-    ap (λ (z : ℤ). toZ w8 (ofZ w8 z)) (difference c) ∙ toZ-ofZ (fits c)
-    ∙ ap (λ (p : ℕ). pos (ones (c .args .x % p)) -ℤ pos (high c)) (base c)))
+    value (low c) (high c) ∙ ap (λ (p : ℕ). pos (ones (c .args .x % p)) -ℤ pos (ones (c .args .x / 2 ^ c .args .half))) (base c)))

@@ -1,0 +1,88 @@
+-- `decimals::signed_of` meets its contract: what is read and the pieces that are left are the word's. Each piece that is read has a byte,
+-- and a comma stands between two, so that they all have a place.
+use Prim.Native.Nat.{_*_, _-_, _<_, _≤_}
+use mathlib.Core.Bool.{false≢true}
+use mathlib.Core.List.{[], _∷_}
+use mathlib.Core.Logic.{⊎-elim, inl, inr}
+use mathlib.Core.Path.{_≡_, refl, sym, _∙_}
+use native.Mathlib.Omega.{arith}
+use borrow.Author.Needs.{needs}
+use mir.Facts.{toZ-ofZ}
+use mir.Syntax.{w8}
+use lib.ListN.{length, drop, length-set}
+use Rattle.decimals.specs.Signed.{minus, pieces}
+use Rattle.decimals.specs.Laws.Pieces.{Gathered, gathered-none, bad-piece, some-byte, next-piece, last-piece}
+use Rattle.decimals.specs.Laws.Pieces.{none-read, bad-read, all-read}
+use Rattle.decimals.proofs.signed_of.Statement.{statement}
+use Rattle.decimals.proofs.signed_of.Tie as tie
+
+abbrev Inv-loop : tie.InvT-loop
+Inv-loop word list₀ fault₀ count₀ at₀ list fault count at =
+    (at ≤ length word) × ((2 * count ≤ at) × ((length list ≡ length list₀) × Gathered (pieces word) list count fault (pieces (drop at word))))
+
+abbrev μ-loop : tie.MeasureT-loop
+μ-loop word list₀ fault₀ count₀ at₀ list fault count at = length word - at
+
+some : (c : tie.Else1 Inv-loop μ-loop) → c .before .before .before .before .args .word .now ≡ minus ∷ [] → ⊥
+some c e = false≢true (sym (c .if1 .left) ∙ c .before .same .ensures .1 e)
+
+-- a piece that is read has a byte, and so a place
+module _ (c : tie.Else2 Inv-loop μ-loop) where
+  on : c .before .before .before .before .before .loop .at < c .before .before .before .before .find .result
+  on =
+      let l = c .before .before .before .before .before .loop in
+      let found = c .before .before .before .before .find .ensures .0 in
+      some-byte _ (l .at) found (l .inv .1 .1 .1) (c .before .before .piece-of .ensures) (c .if2 .left)
+
+  room : c .before .before .before .before .before .loop .count < length (c .before .before .before .before .before .loop .list)
+  room = omega (arith, on)
+
+pub signed-of-spec : {M : Type 1} → statement M
+signed-of-spec =
+    tie.close
+    (tie.spec
+    Inv-loop
+    μ-loop
+    (λ c. search needs)
+    (λ c κs. search needs)
+    (λ c. none-read (c .before .same .ensures .0 (c .if1 .taken)))
+    (λ c. (search needs, (search needs, (refl, gathered-none _ _))))
+    (λ c κs. search needs)
+    (λ c. search needs)
+    (λ c. search needs)
+    (λ c. search needs)
+    (λ c κs. search needs)
+    (λ c. search needs)
+    (λ c.
+    let l = c .before .before .before .before .before .loop in
+    let found = c .before .before .before .before .find .ensures .0 in
+    bad-read (some (c .before .before .before .before .before .before))
+    (bad-piece _ (l .at) found (l .inv .1 .1 .1) (c .before .before .piece-of .ensures) (c .if2 .taken)))
+    (λ c. room (c .before))
+    (λ c. search needs)
+    (λ c. search needs)
+    (λ c.
+    let p = c .before .before .before .before in
+    let l = p .before .before .before .before .before .loop in
+    let found = p .before .before .before .before .find .ensures .0 in
+    let same = toZ-ofZ {w = w8} (record { sfits = c .before .before .before .struct-told .given .0 .1 }) in
+    all-read (some (p .before .before .before .before .before .before))
+    (last-piece _ (l .at) found (l .inv .1 .1 .1) (p .before .before .piece-of .ensures) (p .if2 .left) (room p) same
+    (⊎-elim (λ w. inl (w .0 .taken, w .1)) (λ w. inr (w .0 .left, w .1)) (c .before .if3 .came)) (c .if4 .taken)))
+    (λ c. search needs)
+    (λ c. search needs)
+    (λ c.
+    let p = c .before .before .before .before in
+    let l = p .before .before .before .before .before .loop in
+    let found = p .before .before .before .before .find .ensures .0 in
+    let same = toZ-ofZ {w = w8} (record { sfits = c .before .before .before .struct-told .given .0 .1 }) in (
+      search needs,
+      (
+        omega (arith, on p),
+        (
+          simp length-set (l .inv .1 .1 .0),
+          next-piece _ (l .at) found (l .inv .1 .1 .1) (p .before .before .piece-of .ensures) (p .if2 .left) (room p) same
+              (⊎-elim (λ w. inl (w .0 .taken, w .1)) (λ w. inr (w .0 .left, w .1)) (c .before .if3 .came)) (omega arith),
+        ),
+      ),
+    )))

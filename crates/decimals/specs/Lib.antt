@@ -1,0 +1,4 @@
+pub mod Decimals
+pub mod Signed
+pub mod Rooms
+pub mod Laws
