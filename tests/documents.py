@@ -22,7 +22,7 @@ PATHS = re.compile(r"`((?:bench|bindings|crates|docs|include|oracle|tests|vector
 
 
 def declares(path, name):
-    return path.is_file() and re.search(rf"(?<![\w·-]){re.escape(name)}(?![\w′-])\s*[:(]", path.read_text())
+    return path.is_file() and re.search(rf"(?<![\w·-]){re.escape(name)}(?![\w′-])\s*[:({{]", path.read_text())
 
 
 def cited(text):

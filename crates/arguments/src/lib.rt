@@ -112,12 +112,12 @@ pub fn read(
         k += 1;
         ends[k] = next.value;
     }
-    let hex = Step {
+    let hex_end = Step {
         value: 0,
         next: step.next,
         fault: step.fault,
     };
-    let last = notation::read_signed(shape.signed_outputs > 0, line, hex, signed);
+    let last = notation::read_signed(shape.signed_outputs > 0, line, hex_end, signed);
     let d = door.number;
     let t = time.number;
     Arguments {
@@ -188,7 +188,7 @@ pub fn print_word(bytes: &[u8], text: &mut Text) {
     print(front(text, n));
 }
 
-// Prints a space and then an output, where there is one.
+// Prints a space and then an output, bytes or signed numbers, where there is one.
 fn print_output(wanted: bool, bytes: &[u8], text: &mut Text) {
     if wanted {
         print(b" ");

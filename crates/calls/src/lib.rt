@@ -118,12 +118,12 @@ fn signed_entry(found: Found, asked: &[u8], name: &[u8], call: Call) -> Found {
 // The table.
 pub fn row_of(name: &[u8]) -> Found {
     let f = Found::Nothing;
+    let f = signed_entry(f, name, b"gen_secret", Call::GenSecret);
     // name, optional numbers, numbers, byte strings, byte outputs
     let f = byte_entry(f, name, b"public_key_of", Request::PublicKeyOf, 0, 1, 1, 0);
     let f = byte_entry(f, name, b"read_record", Request::ReadRecord, 0, 0, 1, 1);
     let write = Request::Call(Call::WriteRecord);
     let f = byte_entry(f, name, b"write_record", write, 2, 1, 1, 1);
-    let f = signed_entry(f, name, b"gen_secret", Call::GenSecret);
     // name, numbers, byte strings, lists, byte outputs, list outputs
     let f = entry(f, name, b"keygen", Call::Keygen, 1, 3, 0, 2, 0);
     let f = entry(f, name, b"encaps", Call::Encaps, 1, 2, 0, 2, 0);

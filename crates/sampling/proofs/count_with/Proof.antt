@@ -2,7 +2,6 @@
 use Prim.Native.Nat.{_/_}
 use mathlib.Core.List.{map}
 use mathlib.Core.Path.{sym, ap, _∙_}
-use native.Mathlib.Omega.{arith}
 use borrow.Author.Needs.{needs}
 use lib.ListN.{length}
 use Rattle.weights.specs.Weights.{weighed}
