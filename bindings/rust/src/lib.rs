@@ -10,6 +10,8 @@
 //! - **Secrets stay on the stack.** No call clears what it leaves below its caller's frame, less than 36 KiB. To clear it, call right after
 //!   it, from the same function, one that is `#[inline(never)]` and overwrites a local array of 36 KiB with `write_volatile`, or run the
 //!   calls on a stack of your own and erase that.
+//! - **Set 2 reads a table of 256 bytes at places that secret bytes decide**, in [`keygen`], [`encaps`], [`decaps`], [`encrypt`] and
+//!   [`gen_secret`]. Who can watch the processor's cache learns something of them. Sets 1 and 3 have no such address.
 #![no_std]
 
 use core::fmt;

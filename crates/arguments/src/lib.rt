@@ -188,19 +188,11 @@ pub fn print_word(bytes: &[u8], text: &mut Text) {
     print(front(text, n));
 }
 
-// Prints a space and then an output, bytes or signed numbers, where there is one.
+// Prints a space and then an output, where there is one.
 fn print_output(wanted: bool, bytes: &[u8], text: &mut Text) {
     if wanted {
         print(b" ");
         print_word(bytes, text);
-    }
-}
-
-fn print_signed(wanted: bool, list: &[i8], text: &mut Text) {
-    if wanted {
-        print(b" ");
-        let n = notation::signed_into(list, text);
-        print(front(text, n));
     }
 }
 
@@ -211,7 +203,6 @@ pub fn print_answer(
     output: &[u8],
     extra: &[u8],
     result: &[u16],
-    signed: &[i8],
     spare: &mut Bytes,
     text: &mut Text,
 ) {
@@ -220,7 +211,14 @@ pub fn print_answer(
     print_output(shape.byte_outputs > 1, extra, text);
     let n = notation::bytes_into(result, spare);
     print_output(shape.list_outputs > 0, front(spare, n), text);
-    print_signed(shape.signed_outputs > 0, signed, text);
+}
+
+// Prints an answer and signed numbers.
+pub fn print_signed(answer: u8, list: &[i8], text: &mut Text) {
+    io::print_decimal(1, answer as u64);
+    print(b" ");
+    let n = notation::signed_into(list, text);
+    print(front(text, n));
 }
 
 // Prints a space and then a number, a door or a time, which is `-` where it is missing.

@@ -11,7 +11,6 @@ pub enum Call {
     Encrypt,
     Decrypt,
     GenMatrix,
-    GenSecret,
     PolyMul,
     PolyMulKaratsuba,
     Round,
@@ -25,10 +24,11 @@ pub enum Call {
     WriteRecord,
 }
 
-// What can be asked for: a call, whose reply is its answer and every output; the lookup, whose reply is the part that it hands back; or the
-// reading of a record, whose reply has the numbers of its entry between the answer and the output.
+// What can be asked for: a call, whose reply is its answer and every output; a secret, whose output is a signed list; the lookup, whose reply
+// is the part that it hands back; or the reading of a record, whose reply has the numbers of its entry between the answer and the output.
 pub enum Request {
     Call(Call),
+    GenSecret,
     PublicKeyOf,
     ReadRecord,
 }
@@ -100,9 +100,10 @@ fn byte_entry(
     select(found, asked, name, Row { request, shape })
 }
 
-// The row of a call with a number and a byte string, whose output is a signed list.
-fn signed_entry(found: Found, asked: &[u8], name: &[u8], call: Call) -> Found {
-    let shape = Shape {
+// The table.
+pub fn row_of(name: &[u8]) -> Found {
+    let f = Found::Nothing;
+    let secret = Shape {
         optionals: 0,
         numbers: 1,
         strings: 1,
@@ -111,14 +112,11 @@ fn signed_entry(found: Found, asked: &[u8], name: &[u8], call: Call) -> Found {
         list_outputs: 0,
         signed_outputs: 1,
     };
-    let request = Request::Call(call);
-    select(found, asked, name, Row { request, shape })
-}
-
-// The table.
-pub fn row_of(name: &[u8]) -> Found {
-    let f = Found::Nothing;
-    let f = signed_entry(f, name, b"gen_secret", Call::GenSecret);
+    let row = Row {
+        request: Request::GenSecret,
+        shape: secret,
+    };
+    let f = select(f, name, b"gen_secret", row);
     // name, optional numbers, numbers, byte strings, byte outputs
     let f = byte_entry(f, name, b"public_key_of", Request::PublicKeyOf, 0, 1, 1, 0);
     let f = byte_entry(f, name, b"read_record", Request::ReadRecord, 0, 0, 1, 1);
@@ -156,7 +154,6 @@ pub fn make_call(
     output: &mut [u8],
     extra: &mut [u8],
     result: &mut [u16],
-    signed: &mut [i8],
 ) -> u8 {
     let door = numbers.door;
     let time = numbers.time;
@@ -168,7 +165,6 @@ pub fn make_call(
         Call::Encrypt => pke::encrypt(number, first, second, third, output),
         Call::Decrypt => pke::decrypt(number, first, second, output),
         Call::GenMatrix => sampling::gen_matrix(number, first, result),
-        Call::GenSecret => sampling::gen_secret(number, first, signed),
         Call::PolyMul => ring::poly_mul(number, left, right, result),
         Call::PolyMulKaratsuba => karatsuba::poly_mul_karatsuba(number, left, right, result),
         Call::Round => rounding::round(left, result),

@@ -1,0 +1,113 @@
+// Replies: the call that a request names is made, and what it gives is printed.
+use arguments::Arguments;
+use calls::Call;
+use calls::Request;
+use calls::Row;
+use notation::Bytes;
+use notation::List;
+use notation::Shape;
+use notation::Signed;
+use notation::Text;
+
+// Makes a call and prints its answer. A list or an output is the front of its buffer.
+fn answer_call(
+    call: Call,
+    shape: Shape,
+    a: Arguments,
+    bytes: &[u8],
+    left: &[u16],
+    right: &[u16],
+    output: &mut [u8],
+    extra: &mut [u8],
+    result: &mut [u16],
+    spare: &mut Bytes,
+    text: &mut Text,
+) {
+    let ends = a.ends;
+    let o = notation::least(arguments::part(bytes, ends, 5).len(), output.len());
+    let p = notation::least(arguments::part(bytes, ends, 6).len(), extra.len());
+    let q = notation::least(arguments::part(bytes, ends, 7).len() / 2, result.len());
+    let answer = calls::make_call(
+        call,
+        a.numbers,
+        arguments::part(bytes, ends, 0),
+        arguments::part(bytes, ends, 1),
+        arguments::part(bytes, ends, 2),
+        arguments::list_front(left, arguments::part(bytes, ends, 3).len() / 2),
+        arguments::list_front(right, arguments::part(bytes, ends, 4).len() / 2),
+        &mut output[0..o],
+        &mut extra[0..p],
+        &mut result[0..q],
+    );
+    arguments::print_answer(
+        shape,
+        answer,
+        arguments::front(output, o),
+        arguments::front(extra, p),
+        arguments::list_front(result, q),
+        spare,
+        text,
+    );
+}
+
+// Samples a secret, and prints it, which is the front of its buffer.
+fn answer_secret(a: Arguments, bytes: &[u8], signed: &mut [i8], text: &mut Text) {
+    let ends = a.ends;
+    let n = notation::least(a.signed, signed.len());
+    let seed = arguments::part(bytes, ends, 0);
+    let answer = sampling::gen_secret(a.numbers.number, seed, &mut signed[0..n]);
+    arguments::print_signed(answer, arguments::signed_front(signed, n), text);
+}
+
+// Reads a record, and prints its entry and the ciphertext, which is the front of its buffer.
+fn answer_read(a: Arguments, bytes: &[u8], ciphertext: &mut [u8], text: &mut Text) {
+    let ends = a.ends;
+    let n = notation::least(arguments::part(bytes, ends, 5).len(), ciphertext.len());
+    let read = records::read_record(arguments::part(bytes, ends, 0), &mut ciphertext[0..n]);
+    arguments::print_read(read);
+    arguments::print(b" ");
+    arguments::print_word(arguments::front(ciphertext, n), text);
+}
+
+// Prints the reply to a request: what it asks for, or why it cannot be read.
+pub fn reply(
+    row: Row,
+    a: Arguments,
+    bytes: &Bytes,
+    left: &mut List,
+    right: &mut List,
+    output: &mut Bytes,
+    extra: &mut Bytes,
+    result: &mut List,
+    signed: &mut Signed,
+    spare: &mut Bytes,
+    text: &mut Text,
+) {
+    if arguments::print_fault(a.fault) {
+        return;
+    }
+    let ends = a.ends;
+    let request = row.request;
+    arguments::fill(ends, bytes, left, right, output, extra, result);
+    match request {
+        Request::Call(call) => answer_call(
+            call,
+            row.shape,
+            a,
+            bytes,
+            left,
+            right,
+            output,
+            extra,
+            result,
+            spare,
+            text,
+        ),
+        Request::GenSecret => answer_secret(a, bytes, signed, text),
+        Request::PublicKeyOf => {
+            let key = keys::public_key_of(a.numbers.number, arguments::part(bytes, ends, 0));
+            arguments::print_word(key, text);
+        }
+        Request::ReadRecord => answer_read(a, bytes, output, text),
+    }
+}
