@@ -31,7 +31,7 @@ AllHold (c ∷ cs) = Holds c × AllHold cs
 abbrev pub sampled : (set : ℕ) (bytes : List ℕ) → List ℤ
 sampled set bytes = secretOf (paramsOf set .mu) bytes
 
--- -n
+-- minus n is -n
 abbrev pub minus : ℕ → ℤ
 minus n = negℤ (pos n)
 
