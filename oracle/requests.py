@@ -1011,6 +1011,11 @@ def notation_section():
 # The files
 
 
+def margin_groups():
+    """The input of marginreport: set 3, 128 groups and 95 bytes over."""
+    return b"\3" + b"".join(draw(f"margin group {i}", 96) for i in range(128)) + draw("margin rest", 95)
+
+
 def sabercall():
     """The requests, their answers, how many of them were stated, and how many there are to each call."""
     sections = [section() for section in SECTIONS.values()] + [notation_section()]
@@ -1043,6 +1048,8 @@ def main():
         "crates/sabercall/stdin": requests,
         "crates/sabercall/stdout": answers,
         "crates/saberset/stdout": saber.table().encode(),
+        "crates/marginreport/stdin": margin_groups(),
+        "crates/marginreport/stdout": saber.margin_report(margin_groups()),
     }
     different = 0
     for name, content in files.items():

@@ -1,5 +1,5 @@
-"""Saber as document 01 reads the submission: what every call writes, and the noise of demand 3. Records, as document 02
-lays them out.
+"""Saber as document 01 reads the submission: what every call writes, and the noise of demand 3. Records and the margin
+report, as document 02 has them.
 
 A polynomial is a list of 256 whole numbers, coefficient 0 first; a vector is a list of polynomials,
 a matrix a list of rows. Byte strings are `bytes`. All of this reckons with sound values only and takes a
@@ -61,8 +61,9 @@ def table():
 
 def unpack(width, string):
     """The string cut into numbers of `width` bits, least significant bit first, with no gaps."""
-    bits = int.from_bytes(string, "little")
-    return [bits >> width * i & (1 << width) - 1 for i in range(8 * len(string) // width)]
+    pieces = [string[i : i + width] for i in range(0, len(string), width)]  # of eight numbers each
+    bits, mask = [int.from_bytes(piece, "little") for piece in pieces], (1 << width) - 1
+    return [x >> width * i & mask for x in bits for i in range(8)][: 8 * len(string) // width]
 
 
 def pack(width, numbers):
@@ -111,32 +112,33 @@ def plain_product(a, b):
     return c
 
 
-def at_point(polynomial):
-    """The polynomial's value at X = 2 to the 64."""
-    return sum(x << 64 * i for i, x in enumerate(polynomial))
+HALF = 1 << 63  # of a digit of 64 bits. Added at each place, it keeps digits from being negative
 
 
 @functools.cache
 def halves(n):
-    """Half a digit at each of 2 n places."""
-    return at_point([1 << 63] * (2 * n))
+    """Half a digit at each of n places."""
+    return sum(HALF << 64 * i for i in range(n))
 
 
-def product(a, b):
-    """The same product by Kronecker substitution: one product of big numbers, read off in digits of 64 bits."""
-    # Half a digit added at each place keeps every digit from being negative; the fold takes it out again.
-    n = len(a)
-    whole = at_point(a) * at_point(b) + halves(n)
-    digits = struct.unpack(f"<{2 * n}Q", whole.to_bytes(8 * 2 * n, "little"))
-    return [low - high for low, high in zip(digits[:n], digits[n:])]
+def at_point(polynomial):
+    """The polynomial's value at X = 2 to the 64."""
+    n = len(polynomial)
+    digits = struct.pack(f"<{n}Q", *[x + HALF for x in polynomial])
+    return int.from_bytes(digits, "little") - halves(n)
 
 
 def inner(u, v):
-    """The inner product of two vectors."""
-    total = [0] * len(u[0])
-    for a, b in zip(u, v):
-        total = [x + y for x, y in zip(total, product(a, b))]
-    return total
+    """The inner product of two vectors by Kronecker substitution: products of big numbers, read off in digits."""
+    n = len(u[0])
+    whole = sum(at_point(a) * at_point(b) for a, b in zip(u, v)) + halves(2 * n)
+    digits = struct.unpack(f"<{2 * n}Q", whole.to_bytes(8 * 2 * n, "little"))
+    return [low - high for low, high in zip(digits[:n], digits[n:])]  # which takes the halves out again
+
+
+def product(a, b):
+    """The same product as the plain one."""
+    return inner([a], [b])
 
 
 def times(matrix, vector):
@@ -160,6 +162,10 @@ poly_mul_karatsuba = poly_mul  # A3: it "must agree with the plain one on every 
 
 def round(numbers):
     return [(x + 4) % Q // 8 for x in numbers]
+
+
+def rounded(vector):
+    return [round(numbers) for numbers in vector]
 
 
 # Sampling
@@ -225,11 +231,15 @@ def made(set, matrix_seed, secret_seed):
     return stored, matrix_of(set, stored), secret_of(set, secret_seed)
 
 
+def key_of(b, stored):
+    """The public key."""
+    return pack(10, flat(b)) + stored
+
+
 def keygen(set, matrix_seed, secret_seed, z):
     """Making: the public key and the secret key."""
     stored, A, s = made(set, matrix_seed, secret_seed)
-    b = [round(x) for x in times(transposed(A), s)]
-    public_key = pack(10, flat(b)) + stored
+    public_key = key_of(rounded(times(transposed(A), s)), stored)
     plain_secret = pack(13, modulo(flat(s), Q))
     return public_key, plain_secret + public_key + sha3_256(public_key) + z
 
@@ -239,21 +249,28 @@ def public_key_of(set, secret_key):
     return secret_key[set.plain_secret : -64]
 
 
+def sealed_data(set, b, s1, message):
+    """The reconciliation data of a message."""
+    v1 = modulo(inner(b, s1), P)
+    return recon_data(set, [masked(set, v, bit) for v, bit in zip(v1, unpack(1, message))])
+
+
 def encrypt(set, public_key, message, seed):
     b, stored = polynomials(unpack(10, public_key[:-32])), public_key[-32:]
     s1 = secret_of(set, seed)
-    b1 = [round(x) for x in times(matrix_of(set, stored), s1)]
-    v1 = modulo(inner(b, s1), P)
-    data = recon_data(set, [masked(set, v, bit) for v, bit in zip(v1, unpack(1, message))])
-    return pack(10, flat(b1)) + pack(set.data_width, data)
+    b1 = rounded(times(matrix_of(set, stored), s1))
+    return pack(10, flat(b1)) + pack(set.data_width, sealed_data(set, b, s1, message))
+
+
+def opened(set, s, b1, data):
+    """The message that decryption gives."""
+    return pack(1, recover(set, modulo(inner(b1, s), P), data))
 
 
 def decrypt(set, plain_secret, ciphertext):
     s = polynomials(unpack(13, plain_secret))
     b1 = polynomials(unpack(10, ciphertext[: 320 * set.l]))
-    data = unpack(set.data_width, ciphertext[320 * set.l :])
-    v = modulo(inner(b1, s), P)
-    return pack(1, recover(set, v, data))
+    return opened(set, s, b1, unpack(set.data_width, ciphertext[320 * set.l :]))
 
 
 def key_and_seed(m, key_hash):
@@ -365,20 +382,44 @@ def error(exact):
     return [[(8 * r - x + 3) % Q - 3 for r, x in zip(round(xs), xs)] for xs in exact]
 
 
-def errors(A, s, s1):
-    """e and e'."""
-    return error(times(transposed(A), s)), error(times(A, s1))
-
-
-def noise_of(A, s, s1):
-    """N, over whole numbers, of a matrix and both secrets."""
-    e, e1 = errors(A, s, s1)
+def noise_of(s, s1, e, e1):
+    """N, over whole numbers, of both secrets and the errors of b and b'."""
     return [x - y for x, y in zip(inner(e1, s), inner(e, s1))]
 
 
-def noise(set, matrix_seed, secret_seed, z, seed):
-    """N of making with the first three seeds and sealing with the fourth."""
-    _, A, s = made(set, matrix_seed, secret_seed)
-    public_key, _ = keygen(set, matrix_seed, secret_seed, z)
-    _, r = key_and_seed(sha3_256(seed), sha3_256(public_key))
-    return noise_of(A, s, secret_of(set, r))
+def outcome(set, matrix_seed, secret_seed, seed):
+    """Of making with the first two seeds and sealing with the third: N, m, and what decryption gives. z has no part."""
+    stored, A, s = made(set, matrix_seed, secret_seed)
+    exact = times(transposed(A), s)
+    b, m = rounded(exact), sha3_256(seed)
+    _, r = key_and_seed(m, sha3_256(key_of(b, stored)))
+    s1 = secret_of(set, r)
+    exact1 = times(A, s1)
+    N = noise_of(s, s1, error(exact), error(exact1))
+    return N, m, opened(set, s, rounded(exact1), sealed_data(set, b, s1, m))
+
+
+# The margin (A5), of groups of a matrix seed, a secret seed and a sealing seed
+
+
+GROUP, MOST_GROUPS = 96, 4096
+
+
+def figures(set, group):
+    """8 times M less the largest size of a coefficient of N; and how many bits of m decryption gives wrong."""
+    N, m, message = outcome(set, group[:32], group[32:64], group[64:])
+    wrong = sum(sent != read for sent, read in zip(unpack(1, m), unpack(1, message)))
+    return 8 * set.margin - max(map(abs, N)), wrong
+
+
+def margin_report(given, figures=figures):
+    """What the program marginreport prints."""
+    set = SETS.get(given[0]) if given else None
+    if set is None:
+        return b"refused 1\n"
+    seeds = given[1:][: GROUP * MOST_GROUPS]  # it reads no further
+    cases, rest = divmod(len(seeds), GROUP)
+    found = [figures(set, seeds[GROUP * i : GROUP * (i + 1)]) for i in range(cases)]
+    least = min((margin for margin, _ in found), default="none")
+    wrong = sum(bits for _, bits in found)
+    return f"set cases least wrong rest\n{given[0]} {cases} {least} {wrong} {rest}\n".encode()

@@ -1,5 +1,5 @@
-"""Tests of the oracle: the cases of document 01, NIST's vectors, records, signed lists, and what the papers say must
-hold.
+"""Tests of the oracle: the cases of document 01, NIST's vectors, records, signed lists, the margin report, and what the
+papers say must hold.
 
     python3 oracle/selftest.py
 """
@@ -7,6 +7,7 @@ hold.
 import hashlib
 import itertools
 import sys
+from unittest import mock
 
 import drbg
 import known_answers
@@ -254,8 +255,8 @@ def small_noise():
     N = [24, -24, -16, 8]
     check("small noise: transposed product", saber.times(saber.transposed(A), s) == exact)
     check("small noise: product", saber.times(A, s1) == exact1)
-    check("small noise: e and e'", saber.errors(A, s, s1) == (e, e1))
-    check("small noise: N", saber.noise_of(A, s, s1) == N)
+    check("small noise: e and e'", (saber.error(exact), saber.error(exact1)) == (e, e1))
+    check("small noise: N", saber.noise_of(s, s1, e, e1) == N)
     check("small noise: margin 3, not 2", [all(abs(x) <= 8 * M for x in N) for M in (3, 2)] == [True, False])
 
     # By the plain product, and every coefficient is another one in each trap.
@@ -316,10 +317,11 @@ def demand_3(number, label):
     set = saber.NUMBERS[number]
     seeds, public_key, secret_key = keys(number, label)
     seed, ciphertext, shared_secret = capsule(number, public_key, label)
-    N = saber.noise(set, *seeds, seed)
-    check(f"set {number}: noise within its bounds", len(N) == 256 and all(abs(x) <= 8 * set.margin for x in N))
-
     m = hashlib.sha3_256(seed).digest()
+    N, *messages = saber.outcome(set, *seeds[:2], seed)
+    check(f"set {number}: noise within its bounds", len(N) == 256 and all(abs(x) <= 8 * set.margin for x in N))
+    check(f"set {number}: m and what decryption gives", messages == [m, m])
+
     plain_secret = secret_key[: 416 * set.l]
     check(f"set {number}: decryption", run("decrypt", number, plain_secret, ciphertext, bytes(32)) == (0, [m]))
     check(f"set {number}: unsealing", run("decaps", number, secret_key, ciphertext, bytes(32)) == (0, [shared_secret]))
@@ -340,6 +342,114 @@ def demand_3(number, label):
     v1 = plain_inner(read(public_key[: 320 * set.l], 10), s1)
     multiples = [8 * (x - y) - n for x, y, n in zip(v, v1, N)]
     check(f"set {number}: N is 8 (v - v') modulo 8192", not any(saber.modulo(multiples, 8192)))
+
+
+def stepwise(set, group):
+    """A group's figures, by the plain product and bit by bit."""
+    l = set.l
+
+    def laid(numbers, width):
+        return value([x >> i & 1 for x in numbers for i in range(width)]).to_bytes(len(numbers) * width // 8, "little")
+
+    def less(exact):
+        """8 times the rounded less the exact, by the remainder that rounding leaves."""
+        return [[-(x % 8) if x % 8 < 4 else 8 - x % 8 for x in xs] for xs in exact]
+
+    def secret(seed):
+        numbers = counted_secret(seed, l, set.mu)
+        return [numbers[256 * i :][:256] for i in range(l)]
+
+    stored = hashlib.shake_128(group[:32]).digest(32)
+    stream = bits(hashlib.shake_128(stored).digest(416 * l * l))
+    entries = [value(stream[i : i + 13]) for i in range(0, len(stream), 13)]
+    A = [[entries[256 * (l * i + j) :][:256] for j in range(l)] for i in range(l)]
+    s = secret(group[32:64])
+    exact = [plain_inner([A[j][i] for j in range(l)], s) for i in range(l)]
+    b = [[(x + 4) // 8 % 1024 for x in xs] for xs in exact]
+    key = b"".join(laid(xs, 10) for xs in b) + stored
+    m = hashlib.sha3_256(group[64:]).digest()
+    s1 = secret(hashlib.sha3_512(m + hashlib.sha3_256(key).digest()).digest()[32:])
+    exact1 = [plain_inner(row, s1) for row in A]
+    b1 = [[(x + 4) // 8 % 1024 for x in xs] for xs in exact1]
+    N = [x - y for x, y in zip(plain_inner(less(exact1), s), plain_inner(less(exact), s1))]
+    w = [(x + 512 * bit) % 1024 for x, bit in zip(plain_inner(b, s1), bits(m))]
+    off = [x - y // set.g * set.g + 256 - set.g // 2 for x, y in zip(plain_inner(b1, s), w)]
+    wrong = [x for x, bit in zip(off, bits(m)) if (x % 1024 >= 512) != bit]
+    return 8 * (256 - set.g // 2) - max(max(N), -min(N)), len(wrong)
+
+
+def margins():
+    """A5's report: figures of groups, and lines of figures that are given."""
+    for number, set in saber.SETS.items():
+        group = draw(f"selftest group {number}", 96)
+        margin, wrong = saber.figures(set, group)
+        check(f"set {number}: figures", (margin, wrong) == stepwise(set, group))
+        check(f"set {number}: a margin above 0, no wrong bit", margin > 0 and wrong == 0)
+        line = f"set cases least wrong rest\n{number} 1 {margin} 0 0\n".encode()
+        check(f"set {number}: report", saber.margin_report(bytes([number]) + group) == line)
+        # Secrets with ten times the spread, which bring misses.
+        loud, group = set._replace(mu=100 * set.mu), draw(f"selftest loud {number}", 96)
+        margin, wrong = saber.figures(loud, group)
+        check(f"set {number}, loud: figures", (margin, wrong) == stepwise(loud, group))
+        check(f"set {number}, loud: a margin below 0, wrong bits", margin < 0 and 0 < wrong < 256)
+
+    light, none = saber.SETS[1], bytes(32)
+    for N, message, expected in (
+        ([0] * 256, none, (1536, 0)),
+        ([0] * 255 + [-1528], none, (8, 0)),
+        ([1528, -1536] + [0] * 254, bytes([1]) + bytes(31), (0, 1)),
+        ([1544, -8] + [0] * 254, bytes(31) + bytes([0x81]), (-8, 2)),
+        ([8, -10240] + [0] * 254, bytes([255]) * 32, (-8704, 256)),
+    ):
+        with mock.patch.object(saber, "outcome", lambda *_: (N, none, message)):
+            check(f"figures {expected}", saber.figures(light, bytes(96)) == expected)
+
+    def place(group):
+        return int.from_bytes(group, "little")
+
+    def groups(count):
+        return b"".join(i.to_bytes(96, "little") for i in range(count))
+
+    def prints(label, given, text, figures=None):
+        """With no figures, none are to be reckoned."""
+        check(f"report, {label}", saber.margin_report(given, figures) == text.encode())
+
+    header = "set cases least wrong rest\n"
+    for number in (1, 2, 3):
+        start = bytes([number])
+        prints("no group", start, f"{header}{number} 0 none 0 0\n")
+        prints("95 bytes", start + bytes(95), f"{header}{number} 0 none 0 95\n")
+        for given, least, wrong in (
+            ([(7, 0)], "7", 0), ([(0, 0), (1, 0)], "0", 0), ([(1, 3), (-1, 4)], "-1", 7),
+            ([(-8, 1), (8, 256)], "-8", 257), ([(1496, 0), (1200, 0), (1392, 0)], "1200", 0),
+            ([(-64, 2), (-8704, 256), (-8, 1)], "-8704", 259),
+        ):
+            count = len(given)
+            for rest in (0, 1, 95):
+                text = f"{header}{number} {count} {least} {wrong} {rest}\n"
+                prints(f"{given}", start + groups(count) + bytes(rest), text, lambda _, group: given[place(group)])
+    prints("nothing", b"", "refused 1\n")
+    for byte in {*range(256)} - {1, 2, 3}:
+        for length in (0, 1, 95, 96, 192):
+            prints(f"byte {byte}, then {length}", bytes([byte]) + bytes([1]) * length, "refused 1\n")
+
+    # The more groups are read, the less the least and the more wrong bits.
+    asked = []
+
+    def falling(set, group):
+        asked.append((set, group))
+        return 4000 - place(group), 1
+
+    for count, rest, line in (
+        (4095, 0, "4095 -94 4095 0"), (4095, 95, "4095 -94 4095 95"), (4096, 0, "4096 -95 4096 0"),
+        (4096, 1, "4096 -95 4096 0"), (4096, 50, "4096 -95 4096 0"), (4096, 95, "4096 -95 4096 0"),
+        (4097, 0, "4096 -95 4096 0"), (5000, 7, "4096 -95 4096 0"),
+    ):
+        asked.clear()
+        given = groups(count)
+        prints(f"{count} groups, {rest} bytes", b"\3" + given + bytes(rest), f"{header}3 {line}\n", falling)
+        check(f"{count} groups as they stand", b"".join(group for _, group in asked) == given[: 96 * 4096])
+        check(f"{count} groups of set 3", {set for set, _ in asked} == {saber.SETS[3]})
 
 
 def damaged(number):
@@ -658,7 +768,7 @@ def lines():
 
 def main():
     parts = (cases, hashes, random_bytes, packing, ring, splitting, rounding, sampling, weights, residues, margin)
-    for part in (*parts, small_noise, refusals, records, readings, limits, signed_lists, lines):
+    for part in (*parts, small_noise, margins, refusals, records, readings, limits, signed_lists, lines):
         part()
     for number in saber.NUMBERS:
         in_place(number)

@@ -66,5 +66,6 @@ test_of 'the comparison with the plain implementation, built' c99 agree tests/ag
 test_of 'random calls against the plain implementation' "$work/agree" 2000
 test_of 'sabercall under hostile input' python3 tests/hostile.py
 test_of 'sabercall on the known answers' python3 tests/kat.py
+test_of 'margins against the oracle' python3 tests/margins.py
 test_with cargo 'the Rust package' cargo test --offline --quiet --manifest-path bindings/rust/Cargo.toml --test calls
 echo "tests passed: $passed, skipped: $skipped"

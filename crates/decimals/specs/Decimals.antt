@@ -1,7 +1,7 @@
 -- Decimal numbers as words: digits, the highest first.
-use Prim.Native.Nat.{ℕ, _+_, _-_, _*_, _/_, _%_, _≤_}
+use Prim.Native.Nat.{ℕ, zero, suc, _+_, _-_, _*_, _/_, _%_, _≤_}
 use mathlib.Core.Bool.{Bool, true, cond, _&&_}
-use mathlib.Core.List.{List, [], _∷_}
+use mathlib.Core.List.{List, [], _∷_, _++_}
 use mathlib.Core.Path.{_≡_}
 use lib.Dec.{ltb, leb}
 use lib.ListN.{length}
@@ -17,12 +17,16 @@ every f (x ∷ xs) = f x && every f xs
 abbrev pub digit : ℕ → ℕ
 digit d = 48 + d
 
--- the digits of a number below 1000, with no zeros in front
+-- the digits of a number, the highest first, with no zeros in front: those of a tenth of it, and its last one. There are no more than f
+unfoldable pub digitsWithin : ℕ → ℕ → List ℕ
+digitsWithin zero n = []
+digitsWithin (suc f) n =
+    let more = digitsWithin f (n / 10) ++ digit (n % 10) ∷ [] in
+    cond (ltb n 10) (digit n ∷ []) more
+
+-- n has no more than n + 1 digits
 unfoldable pub decimal : ℕ → List ℕ
-decimal n =
-    cond (ltb n 10) (digit n ∷ [])
-    (cond (ltb n 100) (digit (n / 10) ∷ digit (n % 10) ∷ [])
-    (digit (n / 100) ∷ digit (n / 10 % 10) ∷ digit (n % 10) ∷ []))
+decimal n = digitsWithin (suc n) n
 
 -- ---- what a word reads as
 

@@ -158,7 +158,7 @@ pub fn signed_of(word: &[u8], list: &mut [i8]) -> Reading
 }
 
 // Writes a byte, and says where the next one goes.
-fn put(b: u8, at: usize, text: &mut [u8]) -> usize
+pub fn put(b: u8, at: usize, text: &mut [u8]) -> usize
     requires { ⌜ at < length (now text) ⌝ }
     ensures { λ r. ⌜ Appended (now (text .entry)) at (b ∷ []) (now (text .exit)) r ⌝ }
 {
@@ -166,21 +166,16 @@ fn put(b: u8, at: usize, text: &mut [u8]) -> usize
     at + 1
 }
 
-// The digits of a number.
-fn decimal_into(n: u8, at: usize, text: &mut [u8]) -> usize
-    requires { ⌜ at + 3 ≤ length (now text) ⌝ }
+// The digits of a number: those of a tenth of it, and its last one.
+pub fn decimal_into(n: usize, at: usize, text: &mut [u8]) -> usize
+    requires { ⌜ at + length (decimal n) ≤ length (now text) ⌝ }
     ensures { λ r. ⌜ Appended (now (text .entry)) at (decimal n) (now (text .exit)) r ⌝ }
 {
     if n < 10 {
-        return put(b'0' + n, at, text);
+        return put(b'0' + n as u8, at, text);
     }
-    if n < 100 {
-        let next = put(b'0' + n / 10, at, text);
-        return put(b'0' + n % 10, next, text);
-    }
-    let next = put(b'0' + n / 100, at, text);
-    let last = put(b'0' + n / 10 % 10, next, text);
-    put(b'0' + n % 10, last, text)
+    let last = decimal_into(n / 10, at, text);
+    put(b'0' + (n % 10) as u8, last, text)
 }
 
 // The size of a number, whatever its sign. That of -128 does not fit as a signed number.
@@ -198,7 +193,7 @@ fn number_into(z: i8, at: usize, text: &mut [u8]) -> usize
     requires { ⌜ at + 4 ≤ length (now text) ⌝ }
     ensures { λ r. ⌜ Appended (now (text .entry)) at (numberText z) (now (text .exit)) r ⌝ }
 {
-    let size = size_of(z);
+    let size = size_of(z) as usize;
     if z < 0 {
         let next = put(b'-', at, text);
         return decimal_into(size, next, text);

@@ -37,12 +37,20 @@ fn sums_into(
     }
 }
 
-// The inner product of two vectors of l polynomials, modulo 1024.
+// The inner product of two vectors of l polynomials, modulo 65536.
+pub fn inner_words_into(l: usize, a: &[u16], s: &[u16], work: &mut [u16], out: &mut [u16; 256])
+    requires { ⌜ InnerRoom l (length (now a)) (length (now s)) (length (now work)) ⌝ }
+    ensures { λ _. ⌜ now (out .exit) ≡ innerMod 65536 l (now (a .entry)) (nat (now (s .entry))) ⌝ }
+{
+    sums_into(1, l, a, 0, 0, 1, s, work, out);
+}
+
+// The same modulo 1024.
 pub fn inner_into(l: usize, a: &[u16], s: &[u16], work: &mut [u16], out: &mut [u16; 256])
     requires { ⌜ InnerRoom l (length (now a)) (length (now s)) (length (now work)) ⌝ }
     ensures { λ _. ⌜ now (out .exit) ≡ innerMod 1024 l (now (a .entry)) (nat (now (s .entry))) ⌝ }
 {
-    sums_into(1, l, a, 0, 0, 1, s, work, out);
+    inner_words_into(l, a, s, work, out);
     reduce(1024, out);
 }
 

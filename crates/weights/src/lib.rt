@@ -1,4 +1,4 @@
-// Weights: what a coefficient of a secret is, from a number of bits in two pieces; and signed numbers modulo 8192.
+// Weights: what a coefficient of a secret is, from a number of bits in two pieces; and signed numbers modulo 8192 and 65536.
 ghost use mathlib.Core.List.{map};
 ghost use mathlib.Core.Path.{_≡_};
 ghost use Prim.Native.Nat.{_≤_};
@@ -6,6 +6,7 @@ ghost use lib.ListN.{length};
 ghost use Rattle.algebra.specs.Integers.{modℤ};
 ghost use Rattle.algebra.specs.Ring.{residues};
 ghost use Rattle.weights.specs.Weights.{weighed};
+use ring::reduce;
 use table::WEIGHTS;
 
 mod table;
@@ -45,11 +46,23 @@ pub fn weigh_numbers(half: u32, numbers: &[u16], output: &mut [i8])
     }
 }
 
-// A signed number modulo 8192, with no branch on its sign.
-fn residue(z: i8) -> u16
-    ensures { λ r. ⌜ r ≡ modℤ z 8192 ⌝ }
+// A signed number modulo 65536, with no branch on its sign.
+fn word(z: i8) -> u16
+    ensures { λ r. ⌜ r ≡ modℤ z 65536 ⌝ }
 {
-    ((z as i16 + 8192) as u16) % 8192
+    ((z as i32 + 65536) as u32 % 65536) as u16
+}
+
+// Signed numbers modulo 65536, as their sums are reckoned.
+pub fn words_into(signed: &[i8], output: &mut [u16])
+    requires { ⌜ length (now output) ≡ length (now signed) ⌝ }
+    ensures { λ _. ⌜ now (output .exit) ≡ residues 65536 (now (signed .entry)) ⌝ }
+{
+    let mut i = 0;
+    while i < output.len() {
+        output[i] = word(signed[i]);
+        i += 1;
+    }
 }
 
 // Signed numbers modulo 8192, as they are packed and multiplied.
@@ -57,9 +70,6 @@ pub fn residues_into(signed: &[i8], output: &mut [u16])
     requires { ⌜ length (now output) ≡ length (now signed) ⌝ }
     ensures { λ _. ⌜ now (output .exit) ≡ residues 8192 (now (signed .entry)) ⌝ }
 {
-    let mut i = 0;
-    while i < output.len() {
-        output[i] = residue(signed[i]);
-        i += 1;
-    }
+    words_into(signed, output);
+    reduce(8192, output);
 }

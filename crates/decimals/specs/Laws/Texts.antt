@@ -2,18 +2,16 @@
 use Prim.Native.Nat.{ℕ, suc, _+_, _*_, _<_, _≤_}
 use mathlib.Core.List.{List, [], _∷_, _++_, append-assoc, append-nil}
 use mathlib.Core.Path.{_≡_, ap, _∙_}
-use native.Mathlib.Numerals.{add-one}
 use native.Mathlib.Omega.{arith}
 use lib.IntN.{ℤ, pos, negsuc}
 use lib.ListN.{length, getD, take, drop, length-append, drop-of-length-le}
-use lib.Seq.{drop-cons}
 use mir.Facts.{toZ-ofZ}
 use mir.Syntax.{w8}
 use mir.Val.{SFits}
-use Rattle.decimals.specs.Decimals.{decimal}
+use Rattle.lists.specs.Laws.Lists.{drop-next}
 use Rattle.decimals.specs.Signed.{minus, comma, numberText, furtherText, listText}
 use Rattle.decimals.specs.Rooms.{Appended}
-use Rattle.decimals.specs.Laws.Decimals.{by-digits}
+use Rattle.decimals.specs.Laws.Decimals.{decimal-long}
 use Rattle.decimals.specs.Laws.Signs.{held}
 
 pub appended-as : {old new s t : List ℕ} {a e : ℕ} → s ≡ t → Appended old a t new e → Appended old a s new e
@@ -27,13 +25,10 @@ appended-two {old} {s = s} {t} {a} p q =
       place = omega (arith, p .place, q .place, length-append s t);
     }
 
-decimal-long : (n : ℕ) → length (decimal n) ≤ 3
-decimal-long n = by-digits n (λ ds. length ds ≤ 3) (λ l. omega arith) (λ l. omega arith) (omega arith)
-
-pub number-long : (z : ℤ) → length (numberText z) ≤ 4
+number-long : (z : ℤ) → SFits w8 z → length (numberText z) ≤ 4
 unfolding numberText
-number-long (pos n) = omega (arith, decimal-long n)
-number-long (negsuc n) = omega (arith, decimal-long (suc n))
+number-long (pos n) f = omega (arith, decimal-long 2 n (omega (arith, f .sfits)))
+number-long (negsuc n) f = omega (arith, decimal-long 2 (suc n) (omega (arith, f .sfits)))
 
 -- the text of a list of which all is written but the numbers from place i on
 pub record Written (list : List ℤ) (i : ℕ) (text : List ℕ) (at : ℕ) : Type 0 where
@@ -50,13 +45,15 @@ module _ {old new : List ℕ} {e : ℕ} (list : List ℤ) where
       0 < length list → SFits w8 (getD list 0 (pos 0)) → Appended old 0 (numberText (held (getD list 0 (pos 0)))) new e →
       Written list 1 new e
   unfolding listText
-  written-first h f p = go list h (rw (toZ-ofZ f) at p)
+  written-first h f p = go list h f (rw (toZ-ofZ f) at p)
     where
-      go : (list : List ℤ) → 0 < length list → Appended old 0 (numberText (getD list 0 (pos 0))) new e → Written list 1 new e
-      go [] h p = absurd (omega arith)
-      go (z ∷ zs) h p =
+      go :
+          (list : List ℤ) → 0 < length list → SFits w8 (getD list 0 (pos 0)) → Appended old 0 (numberText (getD list 0 (pos 0))) new e →
+          Written list 1 new e
+      go [] h f p = absurd (omega arith)
+      go (z ∷ zs) h f p =
           record {
-            within = omega (arith, p .place, number-long z);
+            within = omega (arith, p .place, number-long z f);
             front = ap (λ (l : List ℕ). l ++ furtherText zs) (p .front);
           }
 
@@ -66,7 +63,7 @@ module _ {old new : List ℕ} {e : ℕ} (list : List ℤ) where
   unfolding furtherText
   written-more {mid} {a} {m} i h f w p q =
       record {
-        within = omega (arith, w .within, p .place, r .place, number-long (getD list i (pos 0)));
+        within = omega (arith, w .within, p .place, r .place, number-long (getD list i (pos 0)) f);
         front =
             ap (λ (l : List ℕ). l ++ furtherText (drop (i + 1) list)) (appended-two p r .front)
             ∙ append-assoc (take a old) _ (furtherText (drop (i + 1) list))
@@ -77,7 +74,7 @@ module _ {old new : List ℕ} {e : ℕ} (list : List ℤ) where
       r = rw (toZ-ofZ f) at q
 
       next : drop i list ≡ getD list i (pos 0) ∷ drop (i + 1) list
-      next = rw add-one (drop-cons list i (pos 0) h)
+      next = drop-next list i (pos 0) h
 
 pub written-all : {text : List ℕ} {at : ℕ} (list : List ℤ) (i : ℕ) → length list ≤ i → Written list i text at → take at text ≡ listText list
 unfolding furtherText

@@ -4,22 +4,18 @@ use mathlib.Core.Bool.{true, false, false≢true}
 use mathlib.Core.List.{List, [], _∷_, _++_, map}
 use mathlib.Core.Path.{_≡_, refl, sym, ap, ap₂, _∙_}
 use native.Mathlib.Omega.{arith}
-use lib.Dec.{ltb, leb}
+use lib.Dec.{leb}
 use lib.IntN.{ℤ, pos, negsuc}
-use lib.ListN.{length, take}
+use lib.ListN.{take}
 use borrow.Author.Tests.{leb-true, ne-eqb}
 use Rattle.decimals.specs.Decimals.{every, decimal, isDigit, isDecimal}
 use Rattle.decimals.specs.Signed.{minus, comma, numberText, furtherText, listText, pieces, isNone, piecesOf, isNegative}
 use Rattle.decimals.specs.Signed.{isFormed, numberOf, isSmall, numbersOf, faultOf, ReadList}
-use Rattle.decimals.specs.Laws.Decimals.{spelled}
+use Rattle.decimals.specs.Laws.Decimals.{all-digits, spelled}
 use Rattle.decimals.specs.Laws.Pieces.{none-no}
 use Rattle.lists.specs.Laws.Booleans.{and-left, and-right}
 
 -- ---- a number
-
-all-digits : (ds : List ℕ) → isDecimal ds ≡ true → every isDigit ds ≡ true
-unfolding isDecimal
-all-digits ds h = and-right (ltb 0 (length ds)) (every isDigit ds) h
 
 first-digit : (b : ℕ) (ds : List ℕ) → every isDigit (b ∷ ds) ≡ true → 48 ≤ b
 unfolding every
@@ -43,18 +39,18 @@ record Undone (z : ℤ) (piece : List ℕ) : Type 0 where
   number : numberOf piece ≡ z
   part : (rest : List ℕ) (ps : List (List ℕ)) → pieces rest ≡ [] ∷ ps → pieces (piece ++ rest) ≡ piece ∷ ps
 
-number-undone : (z : ℤ) → isSmall z ≡ true → Undone z (numberText z)
+number-undone : (z : ℤ) → Undone z (numberText z)
 unfolding numberText isFormed numberOf pieces
-number-undone (pos n) h =
-    let s = spelled n (omega (arith, leb-true n 127 h)) in
+number-undone (pos n) =
+    let s = spelled n in
     let plain = unsigned (decimal n) (s .decimal) in
     record {
       formed = rw plain (s .decimal);
       number = rw plain (ap pos (s .number));
       part = λ rest ps e. digits-part (decimal n) rest ps (all-digits (decimal n) (s .decimal)) e;
     }
-number-undone (negsuc n) h =
-    let s = spelled (suc n) (omega (arith, leb-true n 127 h)) in
+number-undone (negsuc n) =
+    let s = spelled (suc n) in
     record {
       formed = s .decimal;
       number = rw (s .number);
@@ -63,45 +59,36 @@ number-undone (negsuc n) h =
 
 -- ---- a list
 
-module _ (z : ℤ) (zs : List ℤ) (h : every isSmall (z ∷ zs) ≡ true) where
-  first-undone : Undone z (numberText z)
-  unfolding every
-  first-undone = number-undone z (and-left (isSmall z) (every isSmall zs) h)
-
-  others-small : every isSmall zs ≡ true
-  unfolding every
-  others-small = and-right (isSmall z) (every isSmall zs) h
-
-further-parts : (zs : List ℤ) → every isSmall zs ≡ true → pieces (furtherText zs) ≡ [] ∷ map numberText zs
+further-parts : (zs : List ℤ) → pieces (furtherText zs) ≡ [] ∷ map numberText zs
 unfolding furtherText pieces
-further-parts [] h = refl
-further-parts (z ∷ zs) h = rw (first-undone z zs h .part (furtherText zs) (map numberText zs) (further-parts zs (others-small z zs h)))
+further-parts [] = refl
+further-parts (z ∷ zs) = rw (number-undone z .part (furtherText zs) (map numberText zs) (further-parts zs))
 
-all-formed : (zs : List ℤ) → every isSmall zs ≡ true → every isFormed (map numberText zs) ≡ true
+all-formed : (zs : List ℤ) → every isFormed (map numberText zs) ≡ true
 unfolding every
-all-formed [] h = refl
-all-formed (z ∷ zs) h = rw (first-undone z zs h .formed, all-formed zs (others-small z zs h))
+all-formed [] = refl
+all-formed (z ∷ zs) = rw (number-undone z .formed, all-formed zs)
 
-all-numbers : (zs : List ℤ) → every isSmall zs ≡ true → map numberOf (map numberText zs) ≡ zs
-all-numbers [] h = refl
-all-numbers (z ∷ zs) h = ap₂ _∷_ (first-undone z zs h .number) (all-numbers zs (others-small z zs h))
+all-numbers : (zs : List ℤ) → map numberOf (map numberText zs) ≡ zs
+all-numbers [] = refl
+all-numbers (z ∷ zs) = ap₂ _∷_ (number-undone z .number) (all-numbers zs)
 
 -- just `-` is the text of no number
-no-number : (zs : List ℤ) → every isSmall zs ≡ true → pieces (minus ∷ []) ≡ map numberText zs → ⊥
+no-number : (zs : List ℤ) → pieces (minus ∷ []) ≡ map numberText zs → ⊥
 unfolding every pieces isFormed isDecimal
-no-number zs h e = false≢true (ap (every isFormed) e ∙ all-formed zs h)
+no-number zs e = false≢true (ap (every isFormed) e ∙ all-formed zs)
 
-list-parts : (zs : List ℤ) → every isSmall zs ≡ true → piecesOf (listText zs) ≡ map numberText zs
+list-parts : (zs : List ℤ) → piecesOf (listText zs) ≡ map numberText zs
 unfolding piecesOf isNone listText
-list-parts [] h = refl
-list-parts (z ∷ zs) h = rw (none-no (listText (z ∷ zs)) (λ e. no-number (z ∷ zs) h (ap pieces (sym e) ∙ parts))) parts
+list-parts [] = refl
+list-parts (z ∷ zs) = rw (none-no (listText (z ∷ zs)) (λ e. no-number (z ∷ zs) (ap pieces (sym e) ∙ parts))) parts
   where
     parts : pieces (listText (z ∷ zs)) ≡ map numberText (z ∷ zs)
-    parts = first-undone z zs h .part (furtherText zs) (map numberText zs) (further-parts zs (others-small z zs h))
+    parts = number-undone z .part (furtherText zs) (map numberText zs) (further-parts zs)
 
 pub undone : (zs : List ℤ) → every isSmall zs ≡ true → (faultOf (listText zs) ≡ 0) × (numbersOf (listText zs) ≡ zs)
 unfolding faultOf numbersOf
-undone zs h = (rw (list-parts zs h, all-formed zs h, all-numbers zs h, h), rw (list-parts zs h) (all-numbers zs h))
+undone zs h = (rw (list-parts zs, all-formed zs, all-numbers zs, h), rw (list-parts zs) (all-numbers zs))
 
 -- so what is read of the text of a list is the list
 pub read-back :

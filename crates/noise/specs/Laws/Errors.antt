@@ -1,7 +1,7 @@
 -- Laws of numbers taken about zero, and of the error of rounding.
 use Prim.Native.Nat.{ℕ, _+_, _*_, _-_, _/_, _%_, _<_, _≤_}
 use mathlib.Core.List.{List}
-use mathlib.Core.Path.{_≡_, refl, _∙_}
+use mathlib.Core.Path.{_≡_, _∙_}
 use native.Mathlib.Nat.{mod-eq-of-lt}
 use native.Mathlib.Omega.{arith}
 use lib.IntN.{ℤ, pos, negsuc, negℤ, _+ℤ_, _*ℤ_, _-ℤ_}
@@ -44,25 +44,29 @@ round-error t =
     let c = same-around 8192 (omega arith) (r -ℤ t) in
     record { less = c .more; more = c .less; eq = omega (arith, c .eq, add-split t (error t), sub-split r t) }
 
--- the error lies in -3 .. 4: it is 4 less what rounding drops
+-- the error is 4 less what rounding drops
+pub error-is : (t : ℤ) → error t ≡ pos 4 -ℤ pos ((modℤ t 8192 + 4) % 8)
+error-is t =
+    let y : ℕ = (modℤ t 8192 + 4) % 8192 in
+    let x = pos 4 -ℤ pos ((modℤ t 8192 + 4) % 8) in
+    let c = same-residue 8192 (omega arith) t in
+    let p = sub-split (pos 4) (pos ((modℤ t 8192 + 4) % 8)) in
+    let q = one-sign x in
+    around-is 8192 (omega arith) x (pos (8 * (y / 8)) -ℤ t)
+    (record {
+      less = c .more + (modℤ t 8192 + 4) / 8192;
+      more = c .less;
+      eq = omega (arith, c .eq, sub-split (pos (8 * (y / 8))) t);
+    })
+    (omega arith) (omega arith)
+
+-- it lies in -3 .. 4
 pub error-range : (t : ℤ) → Lies 3 4 (error t)
 error-range t =
-    let y : ℕ = (modℤ t 8192 + 4) % 8192 in
-    let r = pos (8 * (y / 8)) in
-    let x = pos 4 -ℤ pos (y % 8) in
-    let p = sub-split (pos 4) (pos (y % 8)) in
+    let x = pos 4 -ℤ pos ((modℤ t 8192 + 4) % 8) in
+    let p = sub-split (pos 4) (pos ((modℤ t 8192 + 4) % 8)) in
     let q = one-sign x in
-    rw (around-is 8192 (omega arith) x (r -ℤ t) (dropped y refl) (omega arith) (omega arith))
-    (record { below = omega arith; above = omega arith })
-  where
-    dropped : (y : ℕ) → y ≡ (modℤ t 8192 + 4) % 8192 → Same 8192 (pos (8 * (y / 8)) -ℤ t) (pos 4 -ℤ pos (y % 8))
-    dropped y e =
-        let c = same-residue 8192 (omega arith) t in
-        record {
-          less = c .more + (modℤ t 8192 + 4) / 8192;
-          more = c .less;
-          eq = omega (arith, c .eq, sub-split (pos 4) (pos (y % 8)), sub-split (pos (8 * (y / 8))) t);
-        }
+    rw (error-is t) (record { below = omega arith; above = omega arith })
 
 -- and so do e and e′
 pub errors-range : (n l : ℕ) (A : ℕ → ℕ → List ℕ) (s : ℕ → List ℤ) (i k : ℕ) → Lies 3 4 (at (errors n l A s i) k)

@@ -1,4 +1,4 @@
--- `vectors::inner_into` meets its contract: one row of sums, reduced.
+-- `vectors::inner_into` meets its contract: the inner product modulo 65536, reduced.
 use borrow.Author.Needs.{needs}
 use Rattle.vectors.specs.Laws.Turns.{inner-values}
 use Rattle.vectors.proofs.inner_into.Statement.{statement}

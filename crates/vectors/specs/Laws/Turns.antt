@@ -56,12 +56,16 @@ module _ (M : ℕ → ℕ → List ℕ) (s : List ℕ) where
   sums-reduced m rows l h p q =
       q ∙ ap (map (λ x. x % m)) p ∙ map-blocks _ rows _ ∙ blocks-cong rows _ _ (λ i hi. reduced m (inner 256 l _ _) h refl refl)
 
--- two vectors: one row, whose place 0 + 1 j + 0 i is place j
-pub inner-values :
-    (l : ℕ) (a s : List ℕ) {acc out : List ℕ} → acc ≡ sums 65536 1 l (λ i j. poly a (0 + 1 * j + 0 * i)) s → out ≡ map (λ x. x % 1024) acc →
-    out ≡ innerMod 1024 l a (nat s)
-unfolding innerMod sums blocks
-inner-values l a s p = sums-reduced (λ i j. poly a j) s 1024 1 l refl (simp (one-mul, zero-mul, zero-add, add-zero) at p)
+-- two vectors: one row, whose place 0 + 1 j + 0 i is place j; and the same reduced
+module _ (l : ℕ) (a s : List ℕ) where
+  pub inner-words : {out : List ℕ} → out ≡ sums 65536 1 l (λ i j. poly a (0 + 1 * j + 0 * i)) s → out ≡ innerMod 65536 l a (nat s)
+  unfolding innerMod sums blocks
+  inner-words p = simp (one-mul, zero-mul, zero-add, add-zero) at p
+
+  pub inner-values :
+      {acc out : List ℕ} → acc ≡ innerMod 65536 l a (nat s) → out ≡ map (λ x. x % 1024) acc → out ≡ innerMod 1024 l a (nat s)
+  unfolding innerMod
+  inner-values p q = reduced 1024 (inner 256 l _ _) refl p q
 
 -- n rows more of a matrix, from place `row` i on
 pub rows-more :

@@ -13,7 +13,7 @@ use Rattle.algebra.specs.Laws.Vectors.{poly-map, blocks-cong, length-blocks}
 use Rattle.vectors.specs.Vectors.{innerMod, matrixRow, matrixVector}
 
 -- what counts of a secret is its residues
-same-inner :
+pub same-inner :
     (m : ℕ) → 0 < m → (l : ℕ) (a : ℕ → List ℤ) (s s′ : List ℤ) → residues m s ≡ residues m s′ →
     residues m (inner 256 l a (λ i. poly s i)) ≡ residues m (inner 256 l a (λ i. poly s′ i))
 same-inner m hm l a s s′ e =

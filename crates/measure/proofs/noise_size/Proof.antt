@@ -1,0 +1,29 @@
+-- `measure::noise_size` meets its contract: the places that it lends are long enough.
+use borrow.Author.Needs.{needs}
+use Rattle.measure.proofs.noise_size.Statement.{statement}
+use Rattle.measure.proofs.noise_size.Tie as tie
+
+pub noise-size-spec : {M : Type 1} → statement M
+noise-size-spec =
+    tie.close
+    (tie.spec
+    (λ c. search needs)
+    (λ c. search needs)
+    (λ c. search needs)
+    (λ c. search needs)
+    (λ c. search needs)
+    (λ c. search needs)
+    (λ c. search needs)
+    (λ c. search needs)
+    (λ c. search needs)
+    (λ c. search needs)
+    (λ c. search needs)
+    (λ c κs.
+    record {
+      room = c .before .before .before .before .before .pre;
+      sWordsLong = search needs;
+      tWordsLong = search needs;
+      exactLong = search needs;
+      workLong = search needs;
+    })
+    (λ c. search needs))

@@ -1,0 +1,190 @@
+"""The program marginreport against the oracle.
+
+    python3 tests/margins.py [--seed N] [--count N] [--program FILE]
+
+The oracle reckons the figures of COUNT groups of each set that are drawn, on all processors. The program is given them
+one by one, by twos, and to 4,096 and beyond (over and over where COUNT does not suffice), with bytes over; first bytes
+that are refused; input that comes in pieces, that stays open, or that is closed or cannot be read; and files of which
+some is to be left. The first difference ends the run with 1. The seed that is printed repeats a run.
+"""
+
+import fcntl
+import itertools
+import multiprocessing
+import os
+import random
+import struct
+import subprocess
+import sys
+import tempfile
+import termios
+import threading
+import time
+from collections import Counter
+
+from drawing import options
+
+import saber
+
+MOST = saber.MOST_GROUPS
+SECONDS = 60
+
+
+# Inputs
+
+
+def reckoned(draw, count):
+    """Groups of each set, enough for one that is not read, and the figures of all."""
+    drawn = [(set, draw.randbytes(saber.GROUP)) for set in saber.SETS.values() for _ in range(count)]
+    with multiprocessing.Pool() as pool:
+        figures = dict(zip(drawn, pool.starmap(saber.figures, drawn, chunksize=64)))
+    groups = {}
+    for number, set in saber.SETS.items():
+        enough = itertools.islice(itertools.cycle([group for other, group in drawn if other == set]), MOST + 1)
+        groups[number] = sorted(enough, key=lambda group: figures[set, group][0], reverse=True)
+    return groups, figures
+
+
+def of_groups(number, groups, over=b""):
+    return bytes([number]) + b"".join(groups) + over
+
+
+def sound_inputs(number, groups):
+    """Of groups whose margins fall, so that the last one that is read has the least."""
+    most, least = groups[0], groups[-1]
+    for some, rest in itertools.product(([], [most], [most, least], [least, most]), (0, 1, 95)):
+        yield "few groups", of_groups(number, some, least[:rest])
+    for group in groups[::16]:
+        yield "single groups", of_groups(number, [group])
+    for count, rest in ((MOST - 1, 95), (MOST, 0), (MOST, 50), (MOST + 1, 0)):
+        yield "many groups", of_groups(number, groups[:count], least[:rest])
+    yield "many groups", of_groups(number, groups[MOST - 1 :: -1])
+
+
+def refused_inputs(groups):
+    yield b""
+    for byte in {*range(256)} - saber.SETS.keys():
+        for count, rest in ((0, 0), (0, 1), (2, 95)):
+            yield of_groups(byte, groups[:count], groups[-1][:rest])
+
+
+def cut(given, sizes):
+    """The input in pieces of these sizes, over and over."""
+    for size in itertools.cycle(sizes):
+        if not given:
+            return
+        yield given[:size]
+        given = given[size:]
+
+
+# Runs
+
+
+class Difference(Exception):
+    """A run that is not as the oracle has it; its text is how."""
+
+
+def held(pipe):
+    """How many bytes nobody has read yet."""
+    [count] = struct.unpack("i", fcntl.ioctl(pipe, termios.FIONREAD, bytes(4)))
+    return count
+
+
+class Trial:
+    def __init__(self, program, figures):
+        self.program = str(program.resolve())
+        self.figures = figures
+        self.inputs = Counter()
+
+    def compare(self, kind, given, found, status, errors):
+        """Notes a run, or raises how it differs."""
+        expected = saber.margin_report(given, lambda set, group: self.figures[set, group])
+        if (found, status, errors) != (expected, 0, b""):
+            shown = f"{len(given)} bytes, {given[:1].hex()} the first\nexpected: {expected!r}\nfound: {found!r}"
+            raise Difference(f"{kind}: {shown}, status {status}, {errors!r} on standard error")
+        self.inputs[kind] += 1
+
+    def whole(self, kind, given):
+        done = subprocess.run([self.program], input=given, capture_output=True, timeout=SECONDS)
+        self.compare(kind, given, done.stdout, done.returncode, done.stderr)
+
+    def in_pieces(self, kind, pieces, stays_open=False):
+        """Each piece is written when the one before is read. The input may stay open until the program has ended."""
+        pipe, pieces = subprocess.PIPE, [*pieces]
+        with subprocess.Popen([self.program], stdin=pipe, stdout=pipe, stderr=pipe, bufsize=0) as process:
+            limit = threading.Timer(SECONDS, process.kill)
+            limit.start()
+            try:
+                for piece in pieces:
+                    process.stdin.write(piece)
+                    while held(process.stdin) and process.poll() is None:
+                        time.sleep(0.00001)
+            except BrokenPipeError:  # it has ended
+                pass
+            if not stays_open:
+                process.stdin.close()
+            process.wait()
+            limit.cancel()
+            found, errors = process.stdout.read(), process.stderr.read()
+        self.compare(kind, b"".join(pieces), found, process.returncode, errors)
+
+    def left(self, kind, given, count):
+        """From a file, of which `count` bytes are read and no more."""
+        with tempfile.TemporaryFile() as file:
+            file.write(given)
+            file.seek(0)
+            done = subprocess.run([self.program], stdin=file, capture_output=True, timeout=SECONDS)
+            read = os.lseek(file.fileno(), 0, os.SEEK_CUR)
+        if read != count:
+            raise Difference(f"{kind}: {read} bytes of {len(given)} are read, not {count}")
+        self.compare(kind, given, done.stdout, done.returncode, done.stderr)
+
+    def unreadable(self):
+        """Input that is closed, and input that opens and cannot be read."""
+        closed = subprocess.run(["sh", "-c", 'exec "$0" <&-', self.program], capture_output=True, timeout=SECONDS)
+        self.compare("closed", b"", closed.stdout, closed.returncode, closed.stderr)
+        folder = os.open("/", os.O_RDONLY)
+        try:
+            done = subprocess.run([self.program], stdin=folder, capture_output=True, timeout=SECONDS)
+        finally:
+            os.close(folder)
+        self.compare("a folder", b"", done.stdout, done.returncode, done.stderr)
+
+
+def main():
+    given = options("margins", MOST + 1, "groups of each set", program="target/bin/marginreport")
+    draw = random.Random(given.seed)
+    groups, figures = reckoned(draw, given.count)
+    trial = Trial(given.program, figures)
+    try:
+        trial.unreadable()
+        for text in refused_inputs(groups[1]):
+            trial.whole("refused", text)
+        for byte in (0, 4, 255):
+            trial.in_pieces("refused, open", [bytes([byte])], stays_open=True)
+            trial.in_pieces("refused, open", [of_groups(byte, groups[1][:1])], stays_open=True)
+            trial.left("refused, left", of_groups(byte, groups[1][:2]), 1)
+        for number, falling in groups.items():
+            for kind, text in sound_inputs(number, falling):
+                trial.whole(kind, text)
+            trial.in_pieces("byte by byte", cut(of_groups(number, falling[:2], falling[-1][:95]), [1]))
+            for sizes in ([95], [96], [97], [1, 191], [4099], draw.choices(range(1, 1000), k=50)):
+                trial.in_pieces("in pieces", cut(of_groups(number, falling[-200:], falling[0][:95]), sizes))
+            for rest in (0, 50, 96):
+                text = of_groups(number, falling[:MOST], falling[-1][:rest])
+                trial.in_pieces("many groups, open", cut(text, [4099]), stays_open=True)
+                trial.left("many groups, left", text, 1 + saber.GROUP * MOST)
+    except Difference as difference:
+        print(f"difference, {difference}")
+        return 1
+    print("inputs: " + ", ".join(f"{kind} {count}" for kind, count in trial.inputs.items()))
+    for number, set in saber.SETS.items():
+        found = [figures[key] for key in figures if key[0] == set]
+        margins, wrong = [margin for margin, _ in found], sum(bits for _, bits in found)
+        print(f"set {number}: {len(found)} groups, margins {min(margins)} to {max(margins)}, {wrong} bits wrong")
+    print(f"{trial.inputs.total()} inputs, no difference")
+    return 0
+
+
+if __name__ == "__main__":
+    sys.exit(main())
