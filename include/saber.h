@@ -12,11 +12,11 @@
 // - AN OUTPUT OVERLAPS NO OTHER BUFFER of its call, so no call works in place; what it would write then is not defined. Inputs may overlap.
 // - SEEDS, z among them, ARE FRESH, UNPREDICTABLE AND USED ONCE: 32 bytes that the system's generator (getrandom, getentropy) gives for
 //   this one call, kept secret and erased after it. The calls below say what goes wrong otherwise.
-// - SECRETS STAY ON THE STACK. No call clears what it leaves below its caller's frame, less than 36 KiB. To clear it, call right after it,
+// - SECRETS STAY ON THE STACK. No call clears what it leaves below its caller's frame, less than 30 KiB. To clear it, call right after it,
 //   from the same function, one that overwrites as much and is not inlined:
 //
 //       void clear_stack(void) {
-//           volatile uint8_t room[36864];
+//           volatile uint8_t room[30720];
 //           for (size_t i = 0; i < sizeof room; i++)
 //               room[i] = 0;
 //       }

@@ -1,12 +1,12 @@
 // What the calls leave on the stack. Each runs on a stack of its own that was painted before: it must need less than
-// the 36 KiB that include/saber.h names, and what it leaves must be gone after the function that the header shows.
+// the 30 KiB that include/saber.h names, and what it leaves must be gone after the function that the header shows.
 #define _XOPEN_SOURCE 700
 #include "own_stack.h"
 #include <saber.h>
 #include <stdio.h>
 #include <stdlib.h>
 
-enum { SET = SABER_SET_FIRESABER, ROOM = 36864 };
+enum { SET = SABER_SET_FIRESABER, ROOM = 30720 };
 enum { OWN = 64 }; // bytes at the top for the frames of this program itself
 
 static uint8_t seeds[4][32], public_key[FIRESABER_PUBLIC_KEY_BYTES], secret_key[FIRESABER_SECRET_KEY_BYTES];

@@ -7,8 +7,8 @@
 //!
 //! - **Seeds, z among them, are fresh, unpredictable and used once**: 32 bytes that the system's generator gives for this one call, kept
 //!   secret and erased after it. The calls say what goes wrong otherwise.
-//! - **Secrets stay on the stack.** No call clears what it leaves below its caller's frame, less than 36 KiB. To clear it, call right after
-//!   it, from the same function, one that is `#[inline(never)]` and overwrites a local array of 36 KiB with `write_volatile`, or run the
+//! - **Secrets stay on the stack.** No call clears what it leaves below its caller's frame, less than 30 KiB. To clear it, call right after
+//!   it, from the same function, one that is `#[inline(never)]` and overwrites a local array of 30 KiB with `write_volatile`, or run the
 //!   calls on a stack of your own and erase that.
 //! - **Set 2 reads a table of 256 bytes at places that secret bytes decide**, in [`keygen`], [`encaps`], [`decaps`], [`encrypt`] and
 //!   [`gen_secret`]. Who can watch the processor's cache learns something of them. Sets 1 and 3 have no such address.

@@ -1,26 +1,28 @@
--- What the functions ask of lengths. A `Space` is a `Room` with the lengths of lent places.
+-- What the functions ask of lengths. A `Space` has the lengths of lent places besides those of arguments and output.
 use Prim.Native.Nat.{ℕ, _*_, _≤_}
 use mathlib.Core.Path.{_≡_}
+use Rattle.rows.specs.Rooms.{RowsRoom}
 
--- a rounded product of l polynomials, packed
+-- rows of a product, packed to their places among those of all l
+pub record RowsSpace (l matrix secret first rows cut work exact out : ℕ) : Type 0 where
+  pub room : RowsRoom l matrix secret first rows cut work exact
+  pub outLong : 320 * l ≤ out
+
+-- a rounded product of l polynomials, packed at the front of the output
 pub record VectorRoom (l secret out : ℕ) : Type 0 where
   pub few : l ≤ 4
   pub secretLong : secret ≡ 256 * l
-  pub outLong : out ≡ 320 * l
+  pub outLong : 320 * l ≤ out
 
-pub record VectorSpace (l secret matrix exact work out : ℕ) : Type 0 where
+pub record VectorSpace (l secret matrix cut work exact out : ℕ) : Type 0 where
   pub room : VectorRoom l secret out
-  pub matrixLong : matrix ≡ 256 * l * l
-  pub exactLong : exact ≡ 256 * l
+  pub matrixLong : matrix ≡ 416 * l * l
+  pub cutLong : 768 ≤ cut
   pub workLong : 4632 ≤ work
+  pub exactLong : 768 ≤ exact
 
 -- an inner product of a packed vector and a secret
 pub record InnerRoom (l vector secret : ℕ) : Type 0 where
   pub few : l ≤ 4
   pub vectorLong : vector ≡ 320 * l
   pub secretLong : secret ≡ 256 * l
-
-pub record InnerSpace (l vector secret unpacked work : ℕ) : Type 0 where
-  pub room : InnerRoom l vector secret
-  pub unpackedLong : unpacked ≡ 256 * l
-  pub workLong : 2120 ≤ work

@@ -2,6 +2,8 @@
 use Prim.Native.Nat.{ℕ, _+_, _*_, _≤_}
 use mathlib.Core.List.{List}
 use mathlib.Core.Path.{_≡_}
+use lib.ListN.{length}
+use Rattle.lists.specs.Numbers.{Below}
 use Rattle.sets.specs.declared.Params.{Params}
 use Rattle.answers.specs.Rooms.{KeygenRoom}
 use Rattle.keys.specs.Keys.{publicKey, secretKey}
@@ -11,9 +13,9 @@ pub record PublicRoom (l secret pk : ℕ) : Type 0 where
   pub secretLong : secret ≡ 256 * l
   pub pkLong : pk ≡ 320 * l + 32
 
-pub record SecretRoom (l secret pk z sk : ℕ) : Type 0 where
-  pub few : l ≤ 4
-  pub secretLong : secret ≡ 256 * l
+pub record SecretRoom (l : ℕ) (secret : List ℕ) (pk z sk : ℕ) : Type 0 where
+  pub secretLong : length secret ≡ 256 * l
+  pub secretBelow : Below 8192 secret
   pub zLong : z ≡ 32
   pub skLong : sk ≡ 416 * l + (pk + 64)
 

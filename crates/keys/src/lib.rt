@@ -25,20 +25,20 @@ fn public_key_into(l: usize, matrix_seed: &[u8], secret: &[u16], public_key: &mu
     let mut stored = [0u8; 32];
     sha3::shake128_into(matrix_seed, &mut stored);
     let e = 320 * l;
-    exchange::vector_into(true, l, &stored, secret, &mut public_key[0..e]);
+    exchange::vector_into(true, l, &stored, secret, public_key);
     lists::copy_at(&stored, public_key, e);
 }
 
 // The secret key: the plain secret, of 13 bits a coefficient, the public key, its hash and z.
 fn secret_key_into(l: usize, secret: &[u16], public_key: &[u8], z: &[u8], secret_key: &mut [u8])
-    requires { ⌜ SecretRoom l (length (now secret)) (length (now «public_key»)) (length (now z)) (length (now «secret_key»)) ⌝ }
+    requires { ⌜ SecretRoom l (now secret) (length (now «public_key»)) (length (now z)) (length (now «secret_key»)) ⌝ }
     ensures { λ _. ⌜ now («secret_key» .exit)
         ≡ packed 13 (now (secret .entry)) ++ (now («public_key» .entry) ++ (sha3-256 (now («public_key» .entry)) ++ now (z .entry))) ⌝ }
 {
     let e = 416 * l;
     let h = e + public_key.len();
     let f = h + 32;
-    packing::pack_into(13, secret, &mut secret_key[0..e]);
+    packing::pack_vector_at(secret_key, 0, 13, l, secret);
     lists::copy_at(public_key, secret_key, e);
     let hash = sha3::hash256(public_key);
     lists::copy_at(&hash, secret_key, h);

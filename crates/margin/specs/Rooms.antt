@@ -22,6 +22,6 @@ pub record SizeRoom (p : Params) (pk : ℕ) : Type 0 where
 
 pub record SizeSpace (p : Params) (pk matrix s t : ℕ) : Type 0 where
   pub room : SizeRoom p pk
-  pub matrixLong : matrix ≡ 256 * p .l * p .l
+  pub matrixLong : matrix ≡ 416 * p .l * p .l
   pub sLong : s ≡ 256 * p .l
   pub tLong : t ≡ 256 * p .l

@@ -99,13 +99,13 @@ pub fn wrong_of(
 }
 
 // The largest size of a coefficient of the noise, from the stored matrix seed in a public key, the secret seed and the coins. The caller lends
-// the places for the matrix and both secrets.
+// the places for the packed matrix and both secrets.
 fn size_with(
     p: Params,
     public_key: &[u8],
     secret_seed: &[u8],
     coins: &[u8],
-    matrix: &mut [u16],
+    matrix: &mut [u8],
     s: &mut [i8],
     t: &mut [i8],
 ) -> usize
@@ -116,7 +116,7 @@ fn size_with(
 {
     let e = 320 * p.l;
     let key = p.pk;
-    sampling::matrix_into(p.l, &public_key[e..key], matrix);
+    sampling::packed_matrix_into(p.l, &public_key[e..key], matrix);
     sampling::secret_into(p.l, p.mu, secret_seed, s);
     sampling::secret_into(p.l, p.mu, coins, t);
     measure::noise_size(p.l, matrix, s, t)
@@ -129,10 +129,10 @@ pub fn size_of(p: Params, public_key: &[u8], secret_seed: &[u8], coins: &[u8]) -
         (entry (p .l) (matrix (p .l) (drop (320 * p .l) (now («public_key» .entry)))))
         (poly (secret (p .l) (p .mu) (now («secret_seed» .entry)))) (poly (secret (p .l) (p .mu) (now (coins .entry))))) ⌝ }
 {
-    let mut matrix = [0u16; 4096];
+    let mut matrix = [0u8; 6656];
     let mut s = [0i8; 1024];
     let mut t = [0i8; 1024];
-    let m = 256 * p.l * p.l;
+    let m = 416 * p.l * p.l;
     let n = 256 * p.l;
     size_with(
         p,

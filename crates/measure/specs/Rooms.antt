@@ -5,23 +5,21 @@ use mathlib.Core.Path.{_≡_}
 use lib.IntN.{ℤ, natAbs}
 use lib.ListN.{length}
 use Rattle.algebra.specs.Ring.{at}
+use Rattle.rows.specs.Rooms.{ProductRoom}
 
--- `product_with`: a matrix and two secrets of l polynomials
-pub record ProductSpace (l A s t exact work : ℕ) : Type 0 where
-  pub matrixLong : A ≡ 256 * (l * l)
-  pub sLong : s ≡ 256 * l
+-- `product_with`: a packed matrix and two secrets of l polynomials
+pub record ProductSpace (l A s t cut exact work : ℕ) : Type 0 where
+  pub room : ProductRoom l A s cut work exact
   pub tLong : t ≡ 256 * l
-  pub exactLong : exact ≡ 256 * l
-  pub workLong : 4632 ≤ work
 
 -- no coefficient is more than `most` in size
 abbrev pub Small : ℕ → List ℤ → Type 0
 Small most s = (k : ℕ) → natAbs (at s k) ≤ most
 
--- `noise_size`: a matrix and two secrets, whose coefficients are small and not too many for the sums
+-- `noise_size`: a packed matrix and two secrets, whose coefficients are small and not too many for the sums
 pub record NoiseRoom (l A : ℕ) (s t : List ℤ) : Type 0 where
   pub few : l ≤ 4
-  pub matrixLong : A ≡ 256 * (l * l)
+  pub matrixLong : A ≡ 416 * (l * l)
   pub sLong : length s ≡ 256 * l
   pub tLong : length t ≡ 256 * l
   pub most : ℕ
@@ -29,9 +27,10 @@ pub record NoiseRoom (l A : ℕ) (s t : List ℤ) : Type 0 where
   pub tSmall : Small most t
   pub sums : 2048 * (l * most) < 32768
 
-pub record NoiseSpace (l A : ℕ) (s t : List ℤ) (sWords tWords exact work : ℕ) : Type 0 where
+pub record NoiseSpace (l A : ℕ) (s t : List ℤ) (sWords tWords cut exact work : ℕ) : Type 0 where
   pub room : NoiseRoom l A s t
   pub sWordsLong : sWords ≡ 256 * l
   pub tWordsLong : tWords ≡ 256 * l
+  pub cutLong : 768 ≤ cut
   pub exactLong : exact ≡ 256 * l
   pub workLong : 4632 ≤ work

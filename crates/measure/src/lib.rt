@@ -10,6 +10,7 @@ ghost use lib.ListN.{length, getD};
 ghost use Rattle.lists.specs.Lists.{from};
 ghost use Rattle.algebra.specs.Integers.{modℤ};
 ghost use Rattle.algebra.specs.Ring.{inner, nat, poly, residues};
+ghost use Rattle.packing.specs.Packing.{unpacked};
 ghost use Rattle.vectors.specs.Vectors.{entry, side};
 ghost use Rattle.noise.specs.Noise.{around, error, errors, noise};
 ghost use Rattle.measure.specs.Measure.{largest};
@@ -34,26 +35,28 @@ fn errors_in(exact: &mut [u16])
     }
 }
 
-// The errors of the product of the matrix, or of the transposed one, and the secret s, and their inner product with the secret t. The caller
-// lends the places for the product and its errors, and to work in.
+// The errors of the product of the packed matrix, or of the transposed one, and the secret s, and their inner product with the secret t. The
+// caller lends the places for three polynomials, for the product and its errors, and to work in.
 fn product_with(
     transposed: bool,
     l: usize,
-    matrix: &[u16],
+    matrix: &[u8],
     s: &[u16],
     t: &[u16],
+    cut: &mut [u16],
     exact: &mut [u16],
     work: &mut [u16],
     out: &mut [u16; 256],
 )
-    requires { ⌜ ProductSpace l (length (now matrix)) (length (now s)) (length (now t)) (length (now exact)) (length (now work)) ⌝ }
+    requires { ⌜ ProductSpace l (length (now matrix)) (length (now s)) (length (now t)) (length (now cut)) (length (now exact))
+        (length (now work)) ⌝ }
     ensures { λ _. ⌜ now (out .exit)
-        ≡ residues 65536 (inner 256 l (errors 256 l (side transposed l (now (matrix .entry))) (poly (nat (now (s .entry)))))
+        ≡ residues 65536 (inner 256 l (errors 256 l (side transposed l (unpacked 13 (now (matrix .entry)))) (poly (nat (now (s .entry)))))
         (poly (nat (now (t .entry))))) ⌝ }
 {
-    vectors::matrix_into(transposed, l, matrix, s, work, exact);
+    rows::product_into(transposed, l, matrix, s, cut, work, exact);
     errors_in(exact);
-    vectors::inner_words_into(l, exact, t, work, out);
+    rows::inner_words_into(l, exact, t, work, out);
 }
 
 // The size of the number near zero whose residue is x - y.
@@ -86,38 +89,60 @@ fn largest_of(left: &[u16; 256], right: &[u16; 256]) -> usize
     most
 }
 
-// The largest size of a coefficient of N; the caller lends the places for the secrets modulo 65536, for a product and its errors, and to
-// work in.
+// The largest size of a coefficient of N; the caller lends the places for the secrets modulo 65536, for three polynomials, for a product and
+// its errors, and to work in.
 fn noise_size_with(
     l: usize,
-    matrix: &[u16],
+    matrix: &[u8],
     s: &[i8],
     t: &[i8],
     s_words: &mut [u16],
     t_words: &mut [u16],
+    cut: &mut [u16],
     exact: &mut [u16],
     work: &mut [u16],
 ) -> usize
-    requires { ⌜ NoiseSpace l (length (now matrix)) (now s) (now t) (length (now «s_words»)) (length (now «t_words»)) (length (now exact))
-        (length (now work)) ⌝ }
-    ensures { λ r. ⌜ r ≡ largest (noise 256 l (entry l (now (matrix .entry))) (poly (now (s .entry))) (poly (now (t .entry)))) ⌝ }
+    requires { ⌜ NoiseSpace l (length (now matrix)) (now s) (now t) (length (now «s_words»)) (length (now «t_words»)) (length (now cut))
+        (length (now exact)) (length (now work)) ⌝ }
+    ensures { λ r. ⌜ r ≡ largest (noise 256 l (entry l (unpacked 13 (now (matrix .entry)))) (poly (now (s .entry))) (poly (now (t .entry)))) ⌝ }
 {
     let mut left = [0u16; 256];
     let mut right = [0u16; 256];
     weights::words_into(s, s_words);
     weights::words_into(t, t_words);
-    product_with(false, l, matrix, t_words, s_words, exact, work, &mut left);
-    product_with(true, l, matrix, s_words, t_words, exact, work, &mut right);
+    product_with(
+        false,
+        l,
+        matrix,
+        t_words,
+        s_words,
+        cut,
+        exact,
+        work,
+        &mut left,
+    );
+    product_with(
+        true,
+        l,
+        matrix,
+        s_words,
+        t_words,
+        cut,
+        exact,
+        work,
+        &mut right,
+    );
     largest_of(&left, &right)
 }
 
 // The same, with places of its own: s is the secret of making keys, t that of encryption.
-pub fn noise_size(l: usize, matrix: &[u16], s: &[i8], t: &[i8]) -> usize
+pub fn noise_size(l: usize, matrix: &[u8], s: &[i8], t: &[i8]) -> usize
     requires { ⌜ NoiseRoom l (length (now matrix)) (now s) (now t) ⌝ }
-    ensures { λ r. ⌜ r ≡ largest (noise 256 l (entry l (now (matrix .entry))) (poly (now (s .entry))) (poly (now (t .entry)))) ⌝ }
+    ensures { λ r. ⌜ r ≡ largest (noise 256 l (entry l (unpacked 13 (now (matrix .entry)))) (poly (now (s .entry))) (poly (now (t .entry)))) ⌝ }
 {
     let mut s_words = [0u16; 1024];
     let mut t_words = [0u16; 1024];
+    let mut cut = [0u16; 768];
     let mut exact = [0u16; 1024];
     let mut work = [0u16; 4632];
     let n = 256 * l;
@@ -128,6 +153,7 @@ pub fn noise_size(l: usize, matrix: &[u16], s: &[i8], t: &[i8]) -> usize
         t,
         &mut s_words[0..n],
         &mut t_words[0..n],
+        &mut cut,
         &mut exact[0..n],
         &mut work,
     )

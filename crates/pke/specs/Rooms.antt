@@ -1,15 +1,15 @@
 -- What the functions ask of lengths. A `Space` is a `Room` with the length of the lent place for the secret.
-use Prim.Native.Nat.{ℕ, _*_}
+use Prim.Native.Nat.{ℕ, _+_, _*_, _≤_}
 use mathlib.Core.Path.{_≡_}
 use Rattle.sets.specs.declared.Params.{Params}
 use Rattle.sets.specs.Rooms.{Row}
 use Rattle.answers.specs.Rooms.{EncryptRoom, DecryptRoom}
 
--- the reconciliation data of a message, and back
-pub record DataRoom (p : Params) (message out : ℕ) : Type 0 where
+-- the reconciliation data of a message, at a place of the ciphertext, and back
+pub record DataRoom (p : Params) (message place ct : ℕ) : Type 0 where
   pub row : Row p
   pub messageLong : message ≡ 32
-  pub outLong : out ≡ 32 * p .bits
+  pub room : place + 32 * p .bits ≤ ct
 
 pub record MessageRoom (p : Params) (numbers message : ℕ) : Type 0 where
   pub row : Row p

@@ -1,6 +1,7 @@
 // Encryption and decryption, beneath the key encapsulation.
 ghost use mathlib.Core.Path.{_≡_};
 ghost use lib.ListN.{length};
+ghost use Rattle.lists.specs.Strings.{placed};
 ghost use Rattle.sets.specs.Sets.{added};
 ghost use Rattle.packing.specs.Packing.{packed, unpacked};
 ghost use Rattle.reconciliation.specs.Reconciliation.{maskedPoly, reconData, recovered};
@@ -10,19 +11,19 @@ ghost use Rattle.pke.specs.Rooms.{DataRoom, MessageRoom, EncryptSpace, D
 use sets::Params;
 use sets::set_params;
 
-// The reconciliation data of a message, from v'.
-fn data_into(p: Params, v: &[u16; 256], message: &[u8], out: &mut [u8])
-    requires { ⌜ DataRoom p (length (now message)) (length (now out)) ⌝ }
-    ensures { λ _. ⌜ now (out .exit)
-        ≡ packed (p .bits) (reconData (p .g) (maskedPoly (now (v .entry)) (unpacked 1 (now (message .entry))))) ⌝ }
+// The reconciliation data of a message, from v', at a place of the ciphertext. One array holds the message's bits and then the data.
+fn data_at(ciphertext: &mut [u8], place: usize, p: Params, v: &[u16; 256], message: &[u8])
+    requires { ⌜ DataRoom p (length (now message)) place (length (now ciphertext)) ⌝ }
+    ensures { λ _. ⌜ now (ciphertext .exit) ≡ placed place
+        (packed (p .bits) (reconData (p .g) (maskedPoly (now (v .entry)) (unpacked 1 (now (message .entry))))))
+        (now (ciphertext .entry)) ⌝ }
 {
-    let mut bits = [0u16; 256];
+    let mut numbers = [0u16; 256];
     let mut w = [0u16; 256];
-    let mut data = [0u16; 256];
-    packing::unpack_into(1, message, &mut bits);
-    reconciliation::mask_into(v, &bits, &mut w);
-    reconciliation::recon_into(p.g, &w, &mut data);
-    packing::pack_into(p.bits, &data, out);
+    packing::unpack_into(1, message, &mut numbers);
+    reconciliation::mask_into(v, &numbers, &mut w);
+    reconciliation::recon_into(p.g, &w, &mut numbers);
+    packing::pack_at(ciphertext, place, p.bits, &numbers);
 }
 
 // The message, from v and the reconciliation data.
@@ -35,7 +36,7 @@ fn message_into(p: Params, v: &[u16; 256], data: &[u8], message: &mut [u8])
     let mut bits = [0u16; 256];
     packing::unpack_into(p.bits, data, &mut numbers);
     reconciliation::recover_into(p.g, p.margin, v, &numbers, &mut bits);
-    packing::pack_into(1, &bits, message);
+    packing::pack_at(message, 0, 1, &bits);
 }
 
 // Encrypts at arguments of the set's lengths; the caller lends the place for the secret.
@@ -52,7 +53,6 @@ pub fn encrypt_with(
 {
     let e = 320 * p.l;
     let key = p.pk;
-    let end = p.ct;
     let mut v = [0u16; 256];
     sampling::secret_residues_into(p.l, p.mu, seed, secret);
     exchange::both_into(
@@ -60,10 +60,10 @@ pub fn encrypt_with(
         &public_key[e..key],
         &public_key[0..e],
         secret,
-        &mut ciphertext[0..e],
+        ciphertext,
         &mut v,
     );
-    data_into(p, &v, message, &mut ciphertext[e..end]);
+    data_at(ciphertext, e, p, &v, message);
 }
 
 // Decrypts at arguments of the set's lengths; the caller lends the place for the secret.

@@ -8,6 +8,11 @@ pub record MatrixRoom (l out : ℕ) : Type 0 where
   pub few : l ≤ 4
   pub places : out ≡ 256 * l * l
 
+-- `matrix_with`: the bytes of the packed matrix, and a place for each coefficient
+pub record MatrixSpace (l bytes out : ℕ) : Type 0 where
+  pub bytesLong : bytes ≡ 416 * l * l
+  pub places : out ≡ 256 * l * l
+
 -- mu bits, up to 16, are two pieces of one width
 pub record Pieces (mu : ℕ) : Type 0 where
   pub least : 0 < mu

@@ -1,34 +1,42 @@
 // Sampling: the matrix and the secret from their seeds.
 ghost use mathlib.Core.Path.{_≡_};
+ghost use Prim.Native.Nat.{_*_};
 ghost use lib.ListN.{length};
 ghost use Rattle.questions.specs.Answers.{earliest};
 ghost use Rattle.algebra.specs.Ring.{residues};
 ghost use Rattle.packing.specs.Packing.{unpacked};
-ghost use Rattle.packing.specs.Rooms.{Fills};
 ghost use Rattle.sha3.specs.Hashes.{shake128};
 ghost use Rattle.sampling.specs.Sampling.{matrix, secretOf, secret, genMatrixQuestions, genSecretQuestions};
 ghost use Rattle.sampling.specs.Promises.{GenMatrix, GenSecret};
-ghost use Rattle.sampling.specs.Rooms.{MatrixRoom, SampleRoom, CountSpace, SecretRoom};
+ghost use Rattle.sampling.specs.Rooms.{MatrixRoom, MatrixSpace, SampleRoom, CountSpace, SecretRoom};
 use questions::ask;
 use sets::set_params;
 
-// SHAKE-128 of a seed, as many bytes as the buffer has, cut into numbers of `width` bits.
-fn expand(width: u32, seed: &[u8], buffer: &mut [u8], numbers: &mut [u16])
-    requires { ⌜ Fills width (length (now numbers)) (length (now buffer)) ⌝ }
-    ensures { λ _. ⌜ now (numbers .exit) ≡ unpacked width (shake128 (now (seed .entry)) (length (now (buffer .entry)))) ⌝ }
+// The matrix of l rows of l polynomials, packed in 13 bits a coefficient, as SHAKE-128 gives it.
+pub fn packed_matrix_into(l: usize, seed: &[u8], bytes: &mut [u8])
+    requires { ⌜ length (now bytes) ≡ 416 * l * l ⌝ }
+    ensures { λ _. ⌜ unpacked 13 (now (bytes .exit)) ≡ matrix l (now (seed .entry)) ⌝ }
 {
-    sha3::shake128_into(seed, buffer);
-    packing::unpack_into(width, buffer, numbers);
+    sha3::shake128_into(seed, bytes);
 }
 
-// The matrix of l rows of l polynomials, as one flat list.
-pub fn matrix_into(l: usize, seed: &[u8], output: &mut [u16])
+// The same as one flat list; the caller lends the place for the packed one.
+fn matrix_with(l: usize, seed: &[u8], bytes: &mut [u8], output: &mut [u16])
+    requires { ⌜ MatrixSpace l (length (now bytes)) (length (now output)) ⌝ }
+    ensures { λ _. ⌜ now (output .exit) ≡ matrix l (now (seed .entry)) ⌝ }
+{
+    packed_matrix_into(l, seed, bytes);
+    packing::unpack_into(13, bytes, output);
+}
+
+// The same, with a place of its own.
+fn matrix_into(l: usize, seed: &[u8], output: &mut [u16])
     requires { ⌜ MatrixRoom l (length (now output)) ⌝ }
     ensures { λ _. ⌜ now (output .exit) ≡ matrix l (now (seed .entry)) ⌝ }
 {
-    let mut buffer = [0u8; 6656];
+    let mut bytes = [0u8; 6656];
     let n = 416 * l * l;
-    expand(13, seed, &mut buffer[0..n], output);
+    matrix_with(l, seed, &mut bytes[0..n], output);
 }
 
 // The coefficients that bytes give, by counting: a number of mu bits has the two pieces of one. The caller lends the places for the numbers.

@@ -1,7 +1,6 @@
 -- `exchange::both_into` meets its contract: the two products one after another, in arrays that have room for l at most 4.
 use native.Mathlib.Nat.{mul-le-mul}
 use native.Mathlib.Omega.{arith}
-use borrow.Rule.Slice.PartMut.{same-len-mid}
 use borrow.Author.Needs.{needs}
 use Rattle.exchange.proofs.both_into.Statement.{statement}
 use Rattle.exchange.proofs.both_into.Tie as tie
@@ -19,14 +18,10 @@ both-into-spec =
     (λ c. search needs)
     (λ c. search needs)
     (λ c. search needs)
-    (λ c. search needs)
     (λ c κs. search needs)
     (λ c. search needs)
     (λ c. search needs)
-    (λ c.
-    let v = c .before .before .before .before .before .vector-with in
-    let few = c .before .before .before .before .before .before .before .before .before .before .before .before .before .before .pre .0 .few in
-    rw (same-len-mid 0 _ _ (v .last .1 .1 .1 .1 .0) (v .kept .1 .1 .1 .1 .0)) (omega (arith, few)))
+    (λ c. search needs)
     (λ c. search needs)
     (λ c κs. search needs)
     (λ c. search needs)

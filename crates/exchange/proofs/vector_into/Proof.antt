@@ -1,4 +1,4 @@
--- `exchange::vector_into` meets its contract: l is at most 4, so that the arrays have room for a matrix, a vector and the work.
+-- `exchange::vector_into` meets its contract: l is at most 4, so that the arrays have room for a packed matrix, three rows and the work.
 use native.Mathlib.Nat.{mul-le-mul}
 use native.Mathlib.Omega.{arith}
 use borrow.Author.Needs.{needs}
@@ -13,9 +13,7 @@ vector-into-spec =
     (λ c. let few = c .before .before .before .pre .few in omega (arith, mul-le-mul few few))
     (λ c. search needs)
     (λ c. search needs)
-    (λ c. search needs)
     (λ c. let few = c .before .before .before .pre .few in omega (arith, mul-le-mul few few))
-    (λ c. search needs)
     (λ c. search needs)
     (λ c. search needs)
     (λ c. search needs)

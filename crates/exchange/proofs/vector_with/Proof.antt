@@ -1,26 +1,125 @@
--- `exchange::vector_with` meets its contract: the steps of the definition, one after another.
+-- `exchange::vector_with` meets its contract: after each turn the first i rows stand packed at the front, and all else is as it was.
 use borrow.Author.Needs.{needs}
-use Rattle.exchange.specs.Laws.Exchange.{vector-steps}
+use Prim.Native.Nat.{ℕ, _≤_, _*_, _-_}
+use mathlib.Core.Bool.{Bool}
+use mathlib.Core.List.{List, map}
+use mathlib.Core.Path.{_≡_, refl, _∙_}
+use native.Mathlib.Omega.{arith}
+use borrow.Rule.Slice.PartMut.{same-len-mid}
+use lib.ListN.{length, length-take, length-drop}
+use Rattle.lists.specs.Strings.{placed}
+use Rattle.algebra.specs.Ring.{nat, blocks}
+use Rattle.packing.specs.Packing.{packed, unpacked}
+use Rattle.packing.specs.Laws.Places.{packed-none}
+use Rattle.rounding.specs.Rounding.{round}
+use Rattle.vectors.specs.Vectors.{matrixRow, side}
+use Rattle.exchange.specs.Laws.Exchange.{rows-more, vector-whole}
 use Rattle.exchange.proofs.vector_with.Statement.{statement}
 use Rattle.exchange.proofs.vector_with.Tie as tie
+
+pub record Turn (t : Bool) (l : ℕ) (matrix secret cut₀ work₀ exact₀ out₀ cut work exact out : List ℕ) (i : ℕ) : Type 0 where
+  pub within : i ≤ l
+  pub cutLong : length cut ≡ length cut₀
+  pub workLong : length work ≡ length work₀
+  pub exactLong : length exact ≡ length exact₀
+  pub outLong : length out ≡ length out₀
+  pub front : out ≡ placed 0 (packed 10 (map round (blocks i (matrixRow l (side t l (unpacked 13 matrix)) (nat secret))))) out₀
+
+abbrev Inv-loop : tie.InvT-loop
+Inv-loop transposed l seed secret matrix cut₀ work₀ exact₀ out₀ i₀ cut work exact out i =
+    Turn transposed l matrix secret cut₀ work₀ exact₀ out₀ cut work exact out i
+
+abbrev μ-loop : tie.MeasureT-loop
+μ-loop transposed l seed secret matrix cut₀ work₀ exact₀ out₀ i₀ cut work exact out i = l - i
+
+abbrev matrix-of : tie.At-loop Inv-loop μ-loop → tie.After-packed-matrix-into Inv-loop μ-loop
+matrix-of c = c .before .before .before
+
+abbrev start-of : tie.After-packed-matrix-into Inv-loop μ-loop → tie.Start Inv-loop μ-loop
+start-of c = c .before .before .before .before .before .before .before .before .before
+
+loop-holds : tie.Need-loop-holds Inv-loop μ-loop
+unfolding blocks
+loop-holds c =
+    record { within = omega arith; cutLong = refl; workLong = refl; exactLong = refl; outLong = refl; front = packed-none _ _ _ }
+
+rows-with-requires : tie.Need-rows-with-requires Inv-loop μ-loop
+rows-with-requires c κs =
+    let k = c .before .before .before .before .before in
+    let t = k .before .before .loop .inv in
+    let matrix = matrix-of (k .before .before) in
+    let s = start-of matrix in
+    let few = k .some-rows .ensures in
+    record {
+      room = record {
+        some = few .0;
+        few = few .1;
+        within = omega (arith, few .2, k .before .loop-test .taken);
+        matrix = omega (arith, s .pre .matrixLong, matrix .packed-matrix-into .kept .1 .1 .0);
+        vector = s .pre .room .secretLong;
+        cutLong = simp (length-take, length-drop) (omega (arith, few .1, s .pre .cutLong, t .cutLong));
+        space = omega (arith, s .pre .workLong, t .workLong);
+        room = simp (length-take, length-drop) (omega (arith, few .1, s .pre .exactLong, t .exactLong));
+      };
+      outLong = omega (arith, s .pre .room .outLong, t .outLong);
+    }
+
+loop-again : tie.Need-loop-again Inv-loop μ-loop
+loop-again c =
+    let made = c .before .before .before .before .before .before .before .before in
+    let k = made .before .before .before .before .before .before in
+    let t = k .before .before .loop in
+    let matrix = matrix-of (k .before .before) in
+    let s = start-of matrix in
+    let a = s .args in
+    let few = k .some-rows .ensures in
+    let e = 256 * k .some-rows .result - 0 in
+    let last = made .rows-with .last .1 .1 .1 .1 .1 .1 in
+    let kept = made .rows-with .kept .1 .1 .1 .1 .1 .1 in
+    record {
+      within = omega (arith, few .2, k .before .loop-test .taken);
+      cutLong = same-len-mid 0 e (t .cut) (last .0) (kept .0) ∙ t .inv .cutLong;
+      workLong = kept .1 .0 ∙ t .inv .workLong;
+      exactLong = same-len-mid 0 e (t .exact) (last .1 .1 .0) (kept .1 .1 .0) ∙ t .inv .exactLong;
+      outLong = kept .1 .1 .1 .0 ∙ t .inv .outLong;
+      front =
+          rows-more (a .l) (side (a .transposed) (a .l) (unpacked 13 (matrix .packed-matrix-into .last .1 .1 .0))) (nat (a .secret .now)) (t .i)
+          (k .some-rows .result) (a .out .now) (omega (arith, few .2, k .before .loop-test .taken, s .pre .room .outLong)) (t .inv .front)
+          (made .rows-with .ensures);
+    }
+
+returns : tie.Need-returns Inv-loop μ-loop
+returns c =
+    let t = c .before .loop in
+    let matrix = matrix-of (c .before) in
+    let s = start-of matrix in
+    let e : t .i ≡ s .args .l = omega (arith, t .inv .within, c .loop-test .left) in
+    vector-whole (s .args .transposed) (s .args .l) _ _ _ (matrix .packed-matrix-into .ensures) (rw e at (t .inv .front))
 
 pub vector-with-spec : {M : Type 1} → statement M
 vector-with-spec =
     tie.close
     (tie.spec
-    (λ c. search needs)
+    Inv-loop
+    μ-loop
     (λ c κs. search needs)
-    (λ c κs. search needs)
-    (λ c. search needs)
-    (λ c. search needs)
-    (λ c. search needs)
-    (λ c κs. search needs)
-    (λ c. search needs)
-    (λ c. search needs)
+    loop-holds
     (λ c. search needs)
     (λ c κs. search needs)
     (λ c. search needs)
     (λ c. search needs)
     (λ c. search needs)
     (λ c. search needs)
-    (λ c. search vector-steps))
+    (λ c. search needs)
+    (λ c. search needs)
+    (λ c. search needs)
+    rows-with-requires
+    (λ c. search needs)
+    (λ c. search needs)
+    loop-again
+    (λ c. search needs)
+    (λ c. c .before .loop .inv .cutLong)
+    (λ c. c .before .loop .inv .workLong)
+    (λ c. c .before .loop .inv .exactLong)
+    (λ c. c .before .loop .inv .outLong)
+    returns)

@@ -1,6 +1,6 @@
 -- `keys::keygen_with` meets its contract: the steps of the definition, one after another.
 use borrow.Author.Needs.{needs}
-use Rattle.keys.specs.Laws.Keys.{keygen-steps}
+use Rattle.keys.specs.Laws.Keys.{secret-below, keygen-steps}
 use Rattle.keys.proofs.keygen_with.Statement.{statement}
 use Rattle.keys.proofs.keygen_with.Tie as tie
 
@@ -10,7 +10,14 @@ keygen-with-spec =
     (tie.spec
     (λ c κs. search needs)
     (λ c κs. search needs)
-    (λ c κs. search needs)
+    (λ c κs.
+    let secret = c .before .before .before .before .before .before .before .before .before .before in
+    record {
+      secretLong = search needs;
+      secretBelow = secret-below _ _ _ (secret .secret-residues-into .ensures);
+      zLong = search needs;
+      skLong = search needs;
+    })
     (λ c. search needs)
     (λ c. search needs)
     (λ c. search needs)

@@ -10,9 +10,7 @@ returns c =
     let vector = last .before .before .before .before .before in
     let stored = vector .before .before .before .before in
     let start = stored .before .before .before .before .before in
-    let x = vector .vector-into in
-    public-steps (start .args .l) _ _ (x .last .1 .1 .1 .1 .0) _ (start .pre .pkLong) (x .kept .1 .1 .1 .1 .0) (stored .shake128-into .ensures)
-    (x .ensures) (last .copy-at .ensures)
+    public-steps (start .args .l) _ _ _ (start .pre .pkLong) (stored .shake128-into .ensures) (vector .vector-into .ensures) (last .copy-at .ensures)
 
 pub public-key-into-spec : {M : Type 1} → statement M
 public-key-into-spec =
@@ -20,9 +18,6 @@ public-key-into-spec =
     (tie.spec
     (λ c. search needs)
     (λ c κs. search needs)
-    (λ c. search needs)
-    (λ c. search needs)
-    (λ c. search needs)
     (λ c. search needs)
     (λ c. search needs)
     (λ c κs. search needs)

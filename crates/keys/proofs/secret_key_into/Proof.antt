@@ -12,17 +12,13 @@ returns c =
     let public = hash .before .before .before in
     let plain = public .before .before .before .before in
     let start = plain .before .before .before .before .before .before in
-    let x = plain .pack-into in
-    secret-steps (start .args .l) _ _ _ _ (x .last .1 .1 .0) (start .pre .skLong) (start .pre .zLong) (x .kept .1 .1 .0) (x .ensures)
+    secret-steps (start .args .l) _ _ _ _ (start .pre .skLong) (start .pre .secretLong) (start .pre .zLong) (plain .pack-vector-at .ensures)
     (hash .hash256 .ensures) (public .copy-at .ensures) (hashed .copy-at2 .ensures) (last .copy-at3 .ensures)
 
 pub secret-key-into-spec : {M : Type 1} → statement M
 secret-key-into-spec =
     tie.close
     (tie.spec
-    (λ c. search needs)
-    (λ c. search needs)
-    (λ c. search needs)
     (λ c. search needs)
     (λ c. search needs)
     (λ c. search needs)

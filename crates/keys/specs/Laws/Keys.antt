@@ -8,9 +8,10 @@ use native.Mathlib.Omega.{arith}
 use lib.IntN.{ℤ}
 use lib.ListN.{length, take, drop}
 use borrow.Author.Tests.{eqb-true}
-use borrow.Rule.Slice.PartMut.{putMid, midOf}
+use Rattle.lists.specs.Numbers.{Below}
 use Rattle.lists.specs.Strings.{placed}
-use Rattle.lists.specs.Laws.Parts.{prefix-none, prefix-part, prefix-copy, prefix-all}
+use Rattle.lists.specs.Laws.Parts.{prefix-none, prefix-copy, prefix-all}
+use Rattle.lists.specs.Laws.Strings.{placed-two}
 use Rattle.questions.specs.Answers.{earliest}
 use Rattle.questions.specs.Laws.Answers.{all-yes, accepted}
 use Rattle.sets.specs.declared.Params.{Params}
@@ -20,40 +21,46 @@ use Rattle.answers.specs.Questions.{keygenQuestions}
 use Rattle.sponge.specs.Laws.Sponge.{length-sponge}
 use Rattle.sha3.specs.Hashes.{shake128, sha3-256}
 use Rattle.algebra.specs.Ring.{nat, residues}
+use Rattle.algebra.specs.Laws.Reduced.{residues-below}
 use Rattle.packing.specs.Packing.{packed}
+use Rattle.packing.specs.Laws.Polynomials.{length-packed}
 use Rattle.sampling.specs.Sampling.{secret}
 use Rattle.exchange.specs.Exchange.{roundedVector}
-use Rattle.exchange.specs.Laws.Exchange.{vector-secret}
+use Rattle.exchange.specs.Laws.Exchange.{vector-secret, length-packed-vector}
 use Rattle.keys.specs.Keys.{publicKey, plainSecret, secretKey, lookupQuestions, publicKeyOf}
 use Rattle.keys.specs.Promises.{Generated}
 use Rattle.keys.specs.Rooms.{KeyPair, Found}
 
 -- what stands in an output that is written part by part
 pub public-steps :
-    (l : ℕ) (seed old x : List ℕ) (s : List ℤ) {stored pk : List ℕ} → length old ≡ 320 * l + 32 →
-    length x ≡ length (midOf 0 (320 * l - 0) old) → stored ≡ shake128 seed 32 → x ≡ packed 10 (roundedVector true l stored s) →
-    pk ≡ placed (320 * l) stored (putMid 0 (320 * l - 0) old x) →
+    (l : ℕ) (seed old : List ℕ) (s : List ℤ) {stored front pk : List ℕ} → length old ≡ 320 * l + 32 → stored ≡ shake128 seed 32 →
+    front ≡ placed 0 (packed 10 (roundedVector true l stored s)) old → pk ≡ placed (320 * l) stored front →
     pk ≡ packed 10 (roundedVector true l (shake128 seed 32) s) ++ shake128 seed 32
-public-steps l seed old x s {stored} {pk} lo lx es ex ep =
-    let ls : length stored ≡ 32 = ap length es ∙ length-sponge 168 0x1f seed 32 in
-    let first = prefix-part {e = 320 * l} x (prefix-none old) (omega arith) (omega arith) lx in
-    let both = prefix-copy {e = 320 * l + 32} stored first (omega arith) (omega arith) in
-    ep ∙ prefix-all both (omega arith) ∙ rw (ex, es)
+public-steps l seed old s lo es ef ep =
+    let stored = shake128 seed 32 in
+    let ls : length stored ≡ 32 = length-sponge 168 0x1f seed 32 in
+    placed-two (320 * l) (packed 10 (roundedVector true l stored s)) stored old (length-packed-vector true l stored s) (omega arith) (ef ∙ rw es)
+    (ep ∙ rw es)
 
 pub secret-steps :
-    (l : ℕ) (s pk z old x : List ℕ) {hash first second sk : List ℕ} → length old ≡ 416 * l + (length pk + 64) → length z ≡ 32 →
-    length x ≡ length (midOf 0 (416 * l - 0) old) → x ≡ packed 13 s → hash ≡ sha3-256 pk →
-    first ≡ placed (416 * l) pk (putMid 0 (416 * l - 0) old x) → second ≡ placed (416 * l + length pk) hash first →
-    sk ≡ placed (416 * l + length pk + 32) z second → sk ≡ packed 13 s ++ (pk ++ (sha3-256 pk ++ z))
-secret-steps l s pk z old x {hash} {sk = sk} lo lz lx ex eh e1 e2 e3 =
+    (l : ℕ) (s pk z old : List ℕ) {hash plain first second sk : List ℕ} → length old ≡ 416 * l + (length pk + 64) → length s ≡ 256 * l →
+    length z ≡ 32 → plain ≡ placed 0 (packed 13 s) old → hash ≡ sha3-256 pk → first ≡ placed (416 * l) pk plain →
+    second ≡ placed (416 * l + length pk) hash first → sk ≡ placed (416 * l + length pk + 32) z second →
+    sk ≡ packed 13 s ++ (pk ++ (sha3-256 pk ++ z))
+secret-steps l s pk z old {hash} {sk = sk} lo ls lz e0 eh e1 e2 e3 =
+    let lp : length (packed 13 s) ≡ 416 * l = length-packed 13 l (omega arith) s ls in
     let lh : length hash ≡ 32 = ap length eh ∙ length-sponge 136 6 pk 32 in
     let h : ℕ = 416 * l + length pk in
-    let plain = prefix-part {e = 416 * l} x (prefix-none old) (omega arith) (omega arith) lx in
+    let plain = prefix-copy {e = 416 * l} (packed 13 s) (prefix-none old) (omega arith) (omega arith) in
     let public = prefix-copy {e = h} pk plain refl (omega arith) in
     let hashed = prefix-copy {e = h + 32} hash public (omega arith) (omega arith) in
     let whole = prefix-copy {e = h + 32 + 32} z hashed (omega arith) (omega arith) in
-    let done : sk ≡ ((x ++ pk) ++ hash) ++ z = rw (e3, e2, e1) (prefix-all whole (omega arith)) in
-    done ∙ simp append-assoc (rw (ex, eh))
+    let done : sk ≡ ((packed 13 s ++ pk) ++ hash) ++ z = rw (e3, e2, e1, e0) (prefix-all whole (omega arith)) in
+    done ∙ simp append-assoc (rw eh)
+
+-- the plain secret has 13 bits a coefficient
+pub secret-below : (l mu : ℕ) (seed : List ℕ) {s : List ℕ} → s ≡ residues 8192 (secret l mu seed) → Below 8192 s
+secret-below l mu seed e k h = rw e (residues-below 8192 (omega arith) (secret l mu seed) k)
 
 pub keygen-steps :
     (p : Params) (matrixSeed secretSeed z : List ℕ) {s pk sk : List ℕ} → s ≡ residues 8192 (secret (p .l) (p .mu) secretSeed) →

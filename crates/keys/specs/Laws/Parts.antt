@@ -1,5 +1,5 @@
 -- The lengths of the keys that the steps make, and the parts of the secret key that the later calls read.
-use Prim.Native.Nat.{ℕ, _+_, _*_}
+use Prim.Native.Nat.{ℕ, _*_}
 use mathlib.Core.Bool.{true}
 use mathlib.Core.List.{List, _++_}
 use mathlib.Core.Path.{_≡_, _∙_}
@@ -15,8 +15,7 @@ use Rattle.sponge.specs.Laws.Sponge.{length-sponge}
 use Rattle.sha3.specs.Hashes.{shake128, sha3-256}
 use Rattle.sampling.specs.Sampling.{secret}
 use Rattle.sampling.specs.Laws.Sampling.{length-secret}
-use Rattle.exchange.specs.Exchange.{roundedVector}
-use Rattle.exchange.specs.Laws.Exchange.{length-vector}
+use Rattle.exchange.specs.Laws.Exchange.{length-packed-vector}
 use Rattle.keys.specs.Keys.{publicKey, plainSecret, secretKey, plainPart, keyPart, hashPart}
 
 module _ (p : Params) (row : Row p) (matrixSeed secretSeed z : List ℕ) where
@@ -29,11 +28,9 @@ module _ (p : Params) (row : Row p) (matrixSeed secretSeed z : List ℕ) where
   pub length-public : length pk ≡ p .pk
   unfolding publicKey
   length-public =
-      let stored = shake128 matrixSeed 32 in
-      let s = secret (p .l) (p .mu) secretSeed in
       rw (
         length-append,
-        length-packed 10 (p .l) (omega arith) (roundedVector true (p .l) stored s) (length-vector true (p .l) stored s),
+        length-packed-vector true (p .l) (shake128 matrixSeed 32) (secret (p .l) (p .mu) secretSeed),
         length-sponge,
       )
       (omega (arith, row .pkIs))

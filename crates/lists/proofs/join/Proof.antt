@@ -1,6 +1,6 @@
 -- `lists::join` meets its contract: the first string stands in front, and the second behind it.
 use borrow.Author.Needs.{needs}
-use Rattle.lists.specs.Laws.Parts.{placed-two}
+use Rattle.lists.specs.Laws.Strings.{placed-two}
 use Rattle.lists.proofs.join.Statement.{statement}
 use Rattle.lists.proofs.join.Tie as tie
 

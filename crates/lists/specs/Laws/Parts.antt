@@ -67,11 +67,3 @@ prefix-copy {N} {a} {e} {s} {p} y w h l =
 
 pub prefix-all : {N n : ℕ} {s p : List ℕ} → Prefix N s n p → N ≤ n → s ≡ p
 prefix-all {N} {n} {s} {p} w h = put-all n s p (omega (arith, w .size)) (w .front)
-
--- one string in front and another behind it, which fill the whole
-pub placed-two :
-    (a b out : List ℕ) {first whole : List ℕ} → length out ≡ length a + length b → first ≡ placed 0 a out → whole ≡ placed (length a) b first →
-    whole ≡ a ++ b
-placed-two a b out l p q =
-    let front = prefix-copy {e = length a} a (prefix-none out) (omega arith) (omega arith) in
-    rw (q, p) (prefix-all (prefix-copy {e = length a + length b} b front refl (omega arith)) (omega arith))

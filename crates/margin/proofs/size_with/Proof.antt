@@ -1,4 +1,5 @@
 -- `margin::size_with` meets its contract: the steps of the definition, one after another.
+use mathlib.Core.Path.{_∙_}
 use borrow.Author.Needs.{needs}
 use Rattle.margin.specs.Laws.Measures.{size-room, size-steps}
 use Rattle.margin.proofs.size_with.Statement.{statement}
@@ -10,7 +11,8 @@ noise-size-requires c κs =
     let first = second .before .before .before in
     let matrix = first .before .before .before .before in
     let start = matrix .before .before .before .before .before .before .before .before in
-    size-room _ (start .pre .room .row) _ _ _ (matrix .matrix-into .ensures) (first .secret-into .ensures) (second .secret-into2 .ensures)
+    size-room _ (start .pre .room .row) _ _ (matrix .packed-matrix-into .kept .1 .1 .0 ∙ start .pre .matrixLong) (first .secret-into .ensures)
+    (second .secret-into2 .ensures)
 
 returns : tie.Need-returns
 returns c =
@@ -19,7 +21,7 @@ returns c =
     let matrix = first .before .before .before .before in
     let start = matrix .before .before .before .before .before .before .before .before in
     let a = start .args in
-    size-steps (a .p) (a .«public-key» .now) (a .coins .now) (a .«secret-seed» .now) (start .pre .room .pkLong) (matrix .matrix-into .ensures)
+    size-steps (a .p) (a .«public-key» .now) (a .coins .now) (a .«secret-seed» .now) (start .pre .room .pkLong) (matrix .packed-matrix-into .ensures)
     (first .secret-into .ensures) (second .secret-into2 .ensures) (c .noise-size .ensures)
 
 pub size-with-spec : {M : Type 1} → statement M

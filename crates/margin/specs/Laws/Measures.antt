@@ -17,7 +17,7 @@ use Rattle.packing.specs.Laws.Polynomials.{length-packed}
 use Rattle.vectors.specs.Vectors.{entry, innerMod}
 use Rattle.sampling.specs.Sampling.{matrix, secret}
 use Rattle.sampling.specs.Rooms.{Pieces}
-use Rattle.sampling.specs.Laws.Sampling.{length-matrix, length-secret, secret-bound}
+use Rattle.sampling.specs.Laws.Sampling.{length-secret, secret-bound}
 use Rattle.reconciliation.specs.Reconciliation.{recovered}
 use Rattle.reconciliation.specs.Laws.Reconciliation.{length-recovered}
 use Rattle.pke.specs.Pke.{encrypted, decrypted}
@@ -53,11 +53,11 @@ module _ (p : Params) (row : Row p) where
   pieces = record { least = row .muSome; most = row .muFew; even = row .muEven }
 
   pub size-room :
-      (stored secretSeed coins : List ℕ) {A : List ℕ} {s t : List ℤ} → A ≡ matrix (p .l) stored → s ≡ secret (p .l) (p .mu) secretSeed →
-      t ≡ secret (p .l) (p .mu) coins → NoiseRoom (p .l) (length A) s t
-  size-room stored secretSeed coins ea es et = record {
+      (secretSeed coins : List ℕ) {A : ℕ} {s t : List ℤ} → A ≡ 416 * p .l * p .l → s ≡ secret (p .l) (p .mu) secretSeed →
+      t ≡ secret (p .l) (p .mu) coins → NoiseRoom (p .l) A s t
+  size-room secretSeed coins ea es et = record {
     few = row .few;
-    matrixLong = ap length ea ∙ length-matrix (p .l) stored ∙ omega arith;
+    matrixLong = omega (arith, ea);
     sLong = ap length es ∙ length-secret (p .l) (p .mu) secretSeed pieces;
     tLong = ap length et ∙ length-secret (p .l) (p .mu) coins pieces;
     most = p .mu / 2;

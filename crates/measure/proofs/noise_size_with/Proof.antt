@@ -1,16 +1,48 @@
 -- `measure::noise_size_with` meets its contract: the steps of the definition, one after another.
+use mathlib.Core.Path.{_∙_}
+use native.Mathlib.Omega.{arith}
 use borrow.Author.Needs.{needs}
 use Rattle.measure.specs.Laws.Exact.{noise-steps}
 use Rattle.measure.proofs.noise_size_with.Statement.{statement}
 use Rattle.measure.proofs.noise_size_with.Tie as tie
 
+abbrev first-of : tie.After-product-with2 → tie.After-product-with
+first-of c = c .before .before .before .before .before .before .before .before .before .before .before .before .before
+
+abbrev encryption-of : tie.After-product-with → tie.After-words-into2
+encryption-of c = c .before .before .before .before .before .before .before .before .before
+
+abbrev making-of : tie.After-words-into2 → tie.After-words-into
+making-of c = c .before .before .before .before
+
+abbrev start-of : tie.After-words-into → tie.Start
+start-of c = c .before .before .before .before .before .before .before .before
+
+product-with-requires-2 : tie.Need-product-with-requires-2
+product-with-requires-2 c κs =
+    let first = c .before .before .before .before .before .before .before .before .before .before .before .before in
+    let encryption = encryption-of first in
+    let making = making-of encryption in
+    let space = start-of making .pre in
+    let kept = first .product-with .kept .1 .1 .1 .1 .1 in
+    record {
+      room = record {
+        matrix = space .room .matrixLong;
+        vector = making .words-into .kept .1 .0 ∙ space .sWordsLong;
+        cutLong = omega (arith, kept .0, space .cutLong);
+        space = omega (arith, kept .1 .1 .0, space .workLong);
+        room = kept .1 .0 ∙ space .exactLong;
+      };
+      tLong = encryption .words-into2 .kept .1 .0 ∙ space .tWordsLong;
+    }
+
 returns : tie.Need-returns
 returns c =
-    let second = c .before .before .before .before .before .before .before in
-    let first = second .before .before .before .before .before .before .before .before .before .before in
-    let encryption = first .before .before .before .before .before .before .before .before in
-    let making = encryption .before .before .before .before in
-    let start = making .before .before .before .before .before .before .before in
+    let second = c .before .before .before .before .before .before .before .before .before in
+    let first = first-of second in
+    let encryption = encryption-of first in
+    let making = making-of encryption in
+    let start = start-of making in
     let room = start .pre .room in
     noise-steps _ (room .most) _ _ _ (room .sSmall) (room .tSmall) (room .sums) (making .words-into .ensures)
     (encryption .words-into2 .ensures) (first .product-with .ensures) (second .product-with2 .ensures) (c .largest-of .ensures)
@@ -22,8 +54,9 @@ noise-size-with-spec =
     (λ c κs. search needs)
     (λ c κs. search needs)
     (λ c κs. search needs)
+    product-with-requires-2
     (λ c κs. search needs)
-    (λ c κs. search needs)
+    (λ c. making-of (encryption-of (first-of (c .before .before .before .before .before .before .before .before .before))) .words-into .kept .1 .0)
     (λ c. search needs)
     (λ c. search needs)
     (λ c. search needs)

@@ -1,6 +1,7 @@
 -- `measure::product_with` meets its contract: the steps of the definition, one after another.
 use borrow.Author.Needs.{needs}
 use Rattle.algebra.specs.Ring.{nat}
+use Rattle.packing.specs.Packing.{unpacked}
 use Rattle.vectors.specs.Vectors.{side}
 use Rattle.measure.specs.Laws.Exact.{product-steps}
 use Rattle.measure.proofs.product_with.Statement.{statement}
@@ -10,9 +11,9 @@ returns : tie.Need-returns
 returns c =
     let product = c .before .before in
     let errors = product .before .before .before .before .before .before in
-    let exact = errors .before .before .before .before .before .before in
-    let a = exact .before .before .before .before .before .before .before .before .args in
-    product-steps (a .l) (side (a .transposed) (a .l) (a .matrix .now)) (nat (a .s .now)) (a .t .now) (exact .matrix-into .ensures)
+    let exact = errors .before .before .before .before .before .before .before .before in
+    let a = exact .before .before .before .before .before .before .before .before .before .before .args in
+    product-steps (a .l) (side (a .transposed) (a .l) (unpacked 13 (a .matrix .now))) (nat (a .s .now)) (a .t .now) (exact .product-into .ensures)
     (errors .errors-in .ensures) (product .inner-words-into .ensures)
 
 pub product-with-spec : {M : Type 1} → statement M
@@ -22,6 +23,7 @@ product-with-spec =
     (λ c κs. search needs)
     (λ c κs. search needs)
     (λ c κs. search needs)
+    (λ c. search needs)
     (λ c. search needs)
     (λ c. search needs)
     returns)

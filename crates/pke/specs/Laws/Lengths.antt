@@ -9,12 +9,11 @@ use lib.ListN.{length, take, drop, length-append}
 use Rattle.lists.specs.Numbers.{Below}
 use Rattle.sets.specs.declared.Params.{Params}
 use Rattle.sets.specs.Rooms.{Row}
-use Rattle.packing.specs.Packing.{unpacked}
+use Rattle.packing.specs.Packing.{packed, unpacked}
 use Rattle.packing.specs.Laws.Polynomials.{length-packed}
 use Rattle.sampling.specs.Sampling.{secret}
 use Rattle.reconciliation.specs.Laws.Reconciliation.{length-recon, recon-below, length-masked, masked-below}
-use Rattle.exchange.specs.Exchange.{roundedVector}
-use Rattle.exchange.specs.Laws.Exchange.{length-vector}
+use Rattle.exchange.specs.Laws.Exchange.{length-packed-vector}
 use Rattle.pke.specs.Pke.{dataPoly, encrypted}
 
 module _ (p : Params) (row : Row p) where
@@ -26,15 +25,16 @@ module _ (p : Params) (row : Row p) where
   unfolding dataPoly
   data-below b s m = recon-below (p .g) (2 ^ p .bits) _ (row .sums .stepIs) (masked-below _ _)
 
+  pub length-dataPart : (b : List ℕ) (s : List ℤ) (m : List ℕ) → length (packed (p .bits) (dataPoly p b s m)) ≡ 32 * p .bits
+  length-dataPart b s m = length-packed (p .bits) 1 (row .bitsSome) (dataPoly p b s m) (length-data b s m) ∙ omega arith
+
   pub length-encrypted : (pk m seed : List ℕ) → length (encrypted p pk m seed) ≡ p .ct
   unfolding encrypted
   length-encrypted pk m seed =
       let s' = secret (p .l) (p .mu) seed in
-      let last = drop (320 * p .l) pk in
-      let b = unpacked 10 (take (320 * p .l) pk) in
       rw (
         length-append,
-        length-packed 10 (p .l) (omega arith) (roundedVector false (p .l) last s') (length-vector false (p .l) last s'),
-        length-packed (p .bits) 1 (row .bitsSome) (dataPoly p b s' m) (length-data b s' m),
+        length-packed-vector false (p .l) (drop (320 * p .l) pk) s',
+        length-dataPart (unpacked 10 (take (320 * p .l) pk)) s' m,
       )
       (omega (arith, row .ctIs))

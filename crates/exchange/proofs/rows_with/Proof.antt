@@ -1,0 +1,39 @@
+-- `exchange::rows_with` meets its contract: the rows, rounded, and packed to their places.
+use mathlib.Core.Path.{_∙_}
+use borrow.Author.Needs.{needs}
+use Rattle.algebra.specs.Ring.{nat}
+use Rattle.packing.specs.Packing.{unpacked}
+use Rattle.vectors.specs.Vectors.{side}
+use Rattle.exchange.specs.Laws.Exchange.{rows-room}
+use Rattle.exchange.proofs.rows_with.Statement.{statement}
+use Rattle.exchange.proofs.rows_with.Tie as tie
+
+abbrev rounded-of : tie.After-pack-vector-at-arg2 → tie.After-round-into
+rounded-of c = c .before .before .before .before
+
+abbrev made-of : tie.After-round-into → tie.After-rows-into
+made-of c = c .before .before .before .before .before .before .before .before .before
+
+pub rows-with-spec : {M : Type 1} → statement M
+rows-with-spec =
+    tie.close
+    (tie.spec
+    (λ c κs. search needs)
+    (λ c κs. search needs)
+    (λ c. search needs)
+    (λ c κs.
+    let rounded = rounded-of c in
+    let made = made-of rounded in
+    let start = made .before .before .before .before .before .before .before .before .before .before in
+    let a = start .args in
+    rows-room (a .l) (side (a .transposed) (a .l) (unpacked 13 (a .matrix .now))) (nat (a .secret .now)) (a .first) (a .rows) _
+    (made .rows-into .ensures) (rounded .round-into .ensures) (start .pre .room .within)
+    (start .pre .outLong))
+    (λ c. search needs)
+    (λ c. search needs)
+    (λ c. search needs)
+    (λ c. search needs)
+    (λ c.
+    let packs = c .before .before in
+    let rounded = rounded-of (packs .before) in
+    packs .pack-vector-at .ensures ∙ rw (rounded .round-into .ensures, made-of rounded .rows-into .ensures)))

@@ -1,0 +1,128 @@
+-- `rows::sums_into` meets its contract: after the zeros, each turn cuts a column and adds one product to each sum.
+use Prim.Native.Nat.{ℕ, _≤_, _+_, _*_, _-_}
+use mathlib.Core.List.{List}
+use mathlib.Core.Path.{_≡_, refl, _∙_}
+use native.Mathlib.Omega.{arith}
+use borrow.Author.Needs.{needs}
+use lib.ListN.{length, length-take, length-drop}
+use Rattle.algebra.specs.Ring.{poly}
+use Rattle.packing.specs.Packing.{unpacked}
+use Rattle.vectors.specs.Rooms.{sums}
+use Rattle.vectors.specs.Laws.Turns.{sums-none}
+use Rattle.rows.specs.Laws.Rows.{count-fits, part-long, column-more}
+use Rattle.rows.proofs.sums_into.Statement.{statement}
+use Rattle.rows.proofs.sums_into.Tie as tie
+
+pub record Turn (M : ℕ → ℕ → List ℕ) (rows l : ℕ) (s cut₀ work₀ out₀ cut work out : List ℕ) (j : ℕ) : Type 0 where
+  pub within : j ≤ l
+  pub cutLong : length cut ≡ length cut₀
+  pub workLong : length work ≡ length work₀
+  pub outLong : length out ≡ length out₀
+  pub sum : out ≡ sums 65536 rows j M s
+
+abbrev Inv-loop : tie.InvT-loop
+Inv-loop width rows l bytes start row column s cut₀ work₀ out₀ j₀ cut work out j =
+    Turn (λ i j. poly (unpacked width bytes) (start + column * j + row * i)) rows l s cut₀ work₀ out₀ cut work out j
+
+abbrev μ-loop : tie.MeasureT-loop
+μ-loop width rows l bytes start row column s cut₀ work₀ out₀ j₀ cut work out j = l - j
+
+abbrev start-of : tie.In-loop Inv-loop μ-loop → tie.Start Inv-loop μ-loop
+start-of c = c .before .before .before .before .before .before .before .before .before .before .before
+
+-- the place of the column is among the packed polynomials
+column : (c : tie.In-loop Inv-loop μ-loop) →
+    let a = start-of c .args in
+    a .start + a .column * c .before .loop .j ≤ length (a .bytes .now)
+column c =
+    let s = start-of c in
+    omega (
+      arith,
+      s .pre .parts 0 (c .before .loop .j) (s .pre .some) (c .loop-test .taken),
+      count-fits (s .args .width) (s .pre .count) (s .pre .least) (s .pre .whole),
+    )
+
+cut-into-requires : tie.Need-cut-into-requires Inv-loop μ-loop
+cut-into-requires c κs =
+    let k = c .before in
+    let room = start-of k .pre in
+    record {
+      least = room .least;
+      most = room .most;
+      count = room .count;
+      whole = room .whole;
+      parts = λ i h. room .parts i (k .before .loop .j) h (k .loop-test .taken);
+      room = omega (arith, room .cutLong, k .before .loop .inv .cutLong);
+    }
+
+rows-add-requires : tie.Need-rows-add-requires Inv-loop μ-loop
+rows-add-requires c κs =
+    let cuts = c .before .before .before .before .before .before in
+    let k = cuts .before .before in
+    let t = k .before .loop .inv in
+    let room = start-of k .pre in
+    record {
+      most = room .few;
+      factors = λ i h. omega (arith, room .cutLong, t .cutLong, cuts .cut-into .kept .1 .1 .1 .1 .1 .0);
+      factor = simp (length-take, length-drop) (omega (arith, room .vector, k .loop-test .taken));
+      space = omega (arith, room .space, t .workLong);
+      room = omega (arith, room .room, t .outLong);
+    }
+
+loop-again : tie.Need-loop-again Inv-loop μ-loop
+loop-again c =
+    let adds = c .before .before .before .before in
+    let cuts = adds .before .before .before .before .before .before .before in
+    let k = cuts .before .before in
+    let t = k .before .loop in
+    let s = start-of k in
+    let a = s .args in
+    record {
+      within = omega (arith, k .loop-test .taken);
+      cutLong = cuts .cut-into .kept .1 .1 .1 .1 .1 .0 ∙ t .inv .cutLong;
+      workLong = search needs;
+      outLong = search needs;
+      sum =
+          column-more (λ i j. poly (unpacked (a .width) (a .bytes .now)) (a .start + a .column * j + a .row * i)) (a .s .now) _ (a .rows) (t .j)
+          (λ i h.
+          part-long (a .width) _ (s .pre .count) (a .bytes .now) (s .pre .least) (s .pre .whole) (s .pre .parts i (t .j) h (k .loop-test .taken)))
+          (cuts .cut-into .ensures) (t .inv .sum) (adds .rows-add .ensures);
+    }
+
+pub sums-into-spec : {M : Type 1} → statement M
+sums-into-spec =
+    tie.close
+    (tie.spec
+    Inv-loop
+    μ-loop
+    (λ c κs. search needs)
+    (λ c.
+    let z = c .before .before in
+    record {
+      within = omega arith;
+      cutLong = refl;
+      workLong = refl;
+      outLong = refl;
+      sum = z .clear .ensures ∙ rw (z .before .before .before .before .before .before .before .pre .room) (sums-none _ _ _);
+    })
+    (λ c. search needs)
+    (λ c. search needs)
+    (λ c. omega (arith, column c))
+    (λ c. omega (arith, column c))
+    cut-into-requires
+    (λ c. search needs)
+    (λ c. search needs)
+    (λ c. search needs)
+    (λ c. search needs)
+    rows-add-requires
+    (λ c. search needs)
+    (λ c. search needs)
+    loop-again
+    (λ c. c .before .loop .inv .cutLong)
+    (λ c. c .before .loop .inv .workLong)
+    (λ c. search needs)
+    (λ c.
+    let t = c .before .loop in
+    let s = c .before .before .before .before .before .before .before .before .before .before .before in
+    let e : t .j ≡ s .args .l = omega (arith, t .inv .within, c .loop-test .left) in
+    rw e at (t .inv .sum)))

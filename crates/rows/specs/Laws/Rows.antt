@@ -1,0 +1,86 @@
+-- What the code computes, column by column.
+use Prim.Native.Nat.{ℕ, _+_, _-_, _*_, _%_, _<_, _≤_}
+use mathlib.Core.Bool.{Bool, true, cond, not}
+use mathlib.Core.List.{List, map}
+use mathlib.Core.Path.{_≡_, refl, sym, _∙_, ap, fun-ext}
+use native.Mathlib.Nat.{mul-add, mul-le-mul, one-mul, zero-add, le-refl}
+use native.Mathlib.Omega.{arith}
+use lib.IntN.{_+ℤ_}
+use lib.ListN.{length, take, drop, length-take, length-drop}
+use Rattle.lists.specs.Lists.{from}
+use Rattle.lists.specs.Numbers.{Below}
+use Rattle.lists.specs.Laws.Parts.{mid-part}
+use Rattle.algebra.specs.Integers.{modℤ}
+use Rattle.algebra.specs.Ring.{at, coef, inner, nat, poly, blocks}
+use Rattle.algebra.specs.Laws.Vectors.{poly-blocks, blocks-cong, map-blocks}
+use Rattle.packing.specs.Packing.{unpacked}
+use Rattle.packing.specs.Laws.Packing.{recut-length}
+use Rattle.packing.specs.Laws.Polynomials.{unpacked-part}
+use Rattle.ring.specs.Products.{isModulus}
+use Rattle.ring.specs.Laws.Products.{reduced}
+use Rattle.karatsuba.specs.Rooms.{rowsAdded}
+use Rattle.vectors.specs.Vectors.{innerMod, matrixRow, side}
+use Rattle.vectors.specs.Rooms.{sums}
+use Rattle.vectors.specs.Laws.Turns.{sums-more}
+use Rattle.vectors.specs.Laws.Vectors.{strided, within}
+
+-- packed polynomials are no more than their bytes
+pub count-fits : (w count : ℕ) {bytes : ℕ} → 1 ≤ w → bytes ≡ 32 * w * count → count ≤ bytes
+count-fits w count h e = rw e (omega (arith, mul-le-mul h (le-refl count)))
+
+-- what is cut at place x is polynomial x
+pub cut-part :
+    (w x count : ℕ) (bytes : List ℕ) {y : List ℕ} → 1 ≤ w → Below 256 bytes → length bytes ≡ 32 * w * count → x < count →
+    y ≡ unpacked w (take (32 * w * x + 32 * w - 32 * w * x) (drop (32 * w * x) bytes)) → y ≡ poly (unpacked w bytes) x
+cut-part w x count bytes some below whole h e =
+    e ∙ ap (unpacked w) (mid-part (32 * w * x) (32 * w) bytes) ∙ sym (unpacked-part w x count bytes some below h whole)
+
+pub part-long :
+    (w x count : ℕ) (bytes : List ℕ) → 1 ≤ w → length bytes ≡ 32 * w * count → x < count → length (poly (unpacked w bytes) x) ≡ 256
+part-long w x count bytes some whole h =
+    let e = recut-length 8 w (256 * count) bytes some (rw whole (omega arith)) in
+    simp (length-take, length-drop) (omega (arith, e))
+
+-- one column more: its polynomials, cut one behind another, are the rows' factors
+pub column-more :
+    (M : ℕ → ℕ → List ℕ) (s cut : List ℕ) (rows j : ℕ) {acc out : List ℕ} → ((i : ℕ) → i < rows → length (M i j) ≡ 256) →
+    cut ≡ blocks rows (λ i. M i j) → acc ≡ sums 65536 rows j M s →
+    out ≡ rowsAdded rows (λ i. poly cut (0 + 1 * i)) (take (256 * j + 256 - 256 * j) (drop (256 * j) s)) acc → out ≡ sums 65536 rows (j + 1) M s
+unfolding rowsAdded
+column-more M s cut rows j {acc} long e p q =
+    sums-more M s rows j p
+    (q ∙ blocks-cong rows _ _ (λ i h.
+    let same : poly cut (0 + 1 * i) ≡ M i j = rw (zero-add, one-mul, e) (poly-blocks rows (λ i. M i j) long i h) in
+    ap (λ (t : List ℕ). from 256 (λ k.
+    modℤ (at (nat (poly acc i)) k +ℤ coef 256 (nat t) (nat (take (256 * j + 256 - 256 * j) (drop (256 * j) s))) k) 65536)) same))
+
+-- the sums reduced
+sums-reduced :
+    (M : ℕ → ℕ → List ℕ) (s : List ℕ) (m rows l : ℕ) → isModulus m ≡ true → {acc out : List ℕ} → acc ≡ sums 65536 rows l M s →
+    out ≡ map (λ x. x % m) acc → out ≡ sums m rows l M s
+unfolding sums
+sums-reduced M s m rows l h p q =
+    q ∙ ap (map (λ x. x % m)) p ∙ map-blocks _ rows _ ∙ blocks-cong rows _ _ (λ i hi. reduced m (inner 256 l _ _) h refl refl)
+
+-- an inner product by its steps
+pub inner-steps :
+    (l : ℕ) (v s : List ℕ) {a acc out : List ℕ} → a ≡ unpacked 10 v → acc ≡ innerMod 65536 l a (nat s) → out ≡ map (λ x. x % 1024) acc →
+    out ≡ innerMod 1024 l (unpacked 10 v) (nat s)
+unfolding innerMod
+inner-steps l v s e p q = rw e at (reduced 1024 (inner 256 l _ _) refl p q)
+
+module _ (t : Bool) (l : ℕ) {row column : ℕ} (er : row ≡ cond (not t) l 1) (ec : column ≡ cond t l 1) where
+  -- n rows from row i on
+  pub rows-values :
+      (i n : ℕ) (A s : List ℕ) {acc out : List ℕ} → acc ≡ sums 65536 n l (λ k j. poly A (row * i + column * j + row * k)) s →
+      out ≡ map (λ x. x % 8192) acc → out ≡ blocks n (λ k. matrixRow l (side t l A) (nat s) (i + k))
+  unfolding matrixRow sums
+  rows-values i n A s p =
+      let place : (k j : ℕ) → row * i + column * j + row * k ≡ column * j + row * (i + k) = λ k j. omega (arith, mul-add row i k) in
+      let entry : (k j : ℕ) → poly A (row * i + column * j + row * k) ≡ side t l A (i + k) j =
+      λ k j. ap (λ (n : ℕ). poly A n) (place k j) ∙ rw (er, ec) (strided t l A (i + k) j) in
+      sums-reduced (λ k. side t l A (i + k)) s 8192 n l refl (p ∙ ap (λ M. sums 65536 n l M s) (fun-ext (λ k. fun-ext (λ j. entry k j))))
+
+  -- each factor is one of the matrix
+  pub rows-parts : (i n : ℕ) → i + n ≤ l → (k j : ℕ) → k < n → j < l → row * i + column * j + row * k < l * l
+  rows-parts i n h k j hk hj = rw (er, ec) (omega (arith, within t l (i + k) j (omega arith) hj, mul-add (cond (not t) l 1) i k))

@@ -1,0 +1,59 @@
+-- What the functions ask of the lengths of their arguments.
+use Prim.Native.Nat.{ℕ, _+_, _*_, _<_, _≤_}
+use mathlib.Core.Path.{_≡_}
+
+-- what `cut_into` asks: packed polynomials of w bits a coefficient, 1 to 16; each row among them, and a place for it
+pub record CutRoom (w bytes start step rows out : ℕ) : Type 0 where
+  pub least : 1 ≤ w
+  pub most : w ≤ 16
+  pub count : ℕ
+  pub whole : bytes ≡ 32 * w * count
+  pub parts : (i : ℕ) → i < rows → start + step * i < count
+  pub room : out ≡ 256 * rows
+
+-- what `sums_into` asks: the same for each column; up to four rows; the polynomials of s; places for those that are multiplied at once, to work
+-- in and for the sums
+pub record SumsRoom (w rows l bytes start row column s cut work out : ℕ) : Type 0 where
+  pub least : 1 ≤ w
+  pub most : w ≤ 16
+  pub some : 1 ≤ rows
+  pub few : rows ≤ 4
+  pub count : ℕ
+  pub whole : bytes ≡ 32 * w * count
+  pub parts : (i j : ℕ) → i < rows → j < l → start + column * j + row * i < count
+  pub vector : s ≡ 256 * l
+  pub cutLong : cut ≡ 256 * rows
+  pub space : 1256 * rows + 864 ≤ work
+  pub room : out ≡ 256 * rows
+
+-- what `inner_words_into` asks: two vectors, places to work in and for the product
+pub record WordsRoom (l a s work out : ℕ) : Type 0 where
+  pub first : a ≡ 256 * l
+  pub second : s ≡ 256 * l
+  pub space : 2120 ≤ work
+  pub room : out ≡ 256
+
+-- what `inner_into` asks: a packed vector and another; places for the first one, to work in and for the product
+pub record InnerRoom (l vector s words work out : ℕ) : Type 0 where
+  pub packed : vector ≡ 320 * l
+  pub room : WordsRoom l words s work out
+
+-- what `rows_into` asks: up to three rows of a matrix, from `first` on; a vector; places for a polynomial of each, to work in at three rows, and
+-- for the products
+pub record RowsRoom (l A s first rows cut work out : ℕ) : Type 0 where
+  pub some : 1 ≤ rows
+  pub few : rows ≤ 3
+  pub within : first + rows ≤ l
+  pub matrix : A ≡ 416 * (l * l)
+  pub vector : s ≡ 256 * l
+  pub cutLong : cut ≡ 256 * rows
+  pub space : 4632 ≤ work
+  pub room : out ≡ 256 * rows
+
+-- what `product_into` asks: a matrix and a vector; places for three polynomials, to work in at three rows, and for all rows
+pub record ProductRoom (l A s cut work out : ℕ) : Type 0 where
+  pub matrix : A ≡ 416 * (l * l)
+  pub vector : s ≡ 256 * l
+  pub cutLong : 768 ≤ cut
+  pub space : 4632 ≤ work
+  pub room : out ≡ 256 * l
