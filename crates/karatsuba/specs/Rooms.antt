@@ -12,15 +12,15 @@ use Rattle.algebra.specs.Ring.{at, coef, nat, poly, blocks}
 use Rattle.lines.specs.Rooms.{reads, place}
 
 -- ---- what is asked
--- what `lay` asks: the rows in a, the factor b, and places for all of them
-pub record LayRoom (rows a start step b work : ℕ) : Type 0 where
-  pub factors : (i : ℕ) → i < rows → 256 * (start + step * i) + 256 ≤ a
+-- what `lay` asks: the rows a, the factor b, and places for all of them
+pub record LayRoom (rows a b work : ℕ) : Type 0 where
+  pub factors : a ≡ 256 * rows
   pub factor : b ≡ 256
   pub left : 384 * (rows + 1) ≤ work
 
 -- what `lay_line` asks: the same, and line g to end at `end`
-pub record LineRoom (rows a start step b g end work : ℕ) : Type 0 where
-  pub factors : (i : ℕ) → i < rows → 256 * (start + step * i) + 256 ≤ a
+pub record LineRoom (rows a b g end work : ℕ) : Type 0 where
+  pub factors : a ≡ 256 * rows
   pub factor : b ≡ 256
   pub lines : g < 16
   pub left : end ≤ work
@@ -31,18 +31,18 @@ pub record FoldedRoom (x y work o old : ℕ) : Type 0 where
   pub second : y + 16 ≤ work
   pub third : o + 16 ≤ old
 
--- what `rows_add` asks: at most four rows, each in a; one factor; places to work in; a polynomial of out for each row
-pub record RowsRoom (rows a start step b work out : ℕ) : Type 0 where
+-- what `rows_add` asks: at most four rows a; one factor; places to work in; a polynomial of out for each row
+pub record RowsRoom (rows a b work out : ℕ) : Type 0 where
   pub most : rows ≤ 4
-  pub factors : (i : ℕ) → i < rows → 256 * (start + step * i) + 256 ≤ a
+  pub factors : a ≡ 256 * rows
   pub factor : b ≡ 256
   pub space : 1256 * rows + 864 ≤ work
   pub room : out ≡ 256 * rows
 
 -- ---- what is left
--- the operand laid as row i: a polynomial of a, or behind the rows b
-unfoldable pub source : (rows : ℕ) → List ℕ → (start step : ℕ) → List ℕ → ℕ → List ℕ
-source rows a start step b i = cond (ltb i rows) (poly a (start + step * i)) b
+-- the operand laid as row i: polynomial i of a, or behind the rows b
+unfoldable pub source : (rows : ℕ) → List ℕ → List ℕ → ℕ → List ℕ
+source rows a b i = cond (ltb i rows) (poly a i) b
 
 -- n of sixteen coefficients of f from s on, behind 8 zeros
 pub record Line (f : List ℕ) (s n : ℕ) (r : List ℕ) : Type 0 where
@@ -71,6 +71,6 @@ foldAt w x y old o k = modℤ (reads old (o + k) +ℤ (reads w (x + k) -ℤ read
 abbrev pub foldRow : List ℕ → (x s : ℕ) → List ℕ → ℕ → ℕ
 foldRow w x s old k = modℤ (reads old k +ℤ (reads w (x + place s k) -ℤ reads w (x + place s (256 + k)))) 65536
 
--- to polynomial i of `old` the product of a i and b, modulo 65536, for each i below rows
-unfoldable pub rowsAdded : ℕ → (ℕ → List ℕ) → List ℕ → List ℕ → List ℕ
-rowsAdded rows a b old = blocks rows (λ i. from 256 (λ k. modℤ (at (nat (poly old i)) k +ℤ coef 256 (nat (a i)) (nat b) k) 65536))
+-- to polynomial i of `old` the product of polynomial i of a and b, modulo 65536, for each i below rows
+unfoldable pub rowsAdded : ℕ → List ℕ → List ℕ → List ℕ → List ℕ
+rowsAdded rows a b old = blocks rows (λ i. from 256 (λ k. modℤ (at (nat (poly old i)) k +ℤ coef 256 (nat (poly a i)) (nat b) k) 65536))

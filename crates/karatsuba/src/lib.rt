@@ -24,22 +24,13 @@ fn line(f: &[u16], s: usize) -> [u16; 24]
 }
 
 // Line g of each row and of b, at the place `at`.
-fn lay_line(
-    rows: usize,
-    a: &[u16],
-    start: usize,
-    step: usize,
-    b: &[u16],
-    g: usize,
-    work: &mut [u16],
-    at: usize,
-)
-    requires { ⌜ LineRoom rows (length (now a)) start step (length (now b)) g (at + 24 * (rows + 1)) (length (now work)) ⌝ }
-    ensures { λ _. ⌜ LaidLine (source rows (now (a .entry)) start step (now (b .entry))) g (rows + 1) at (now (work .entry)) (now (work .exit)) ⌝ }
+fn lay_line(rows: usize, a: &[u16], b: &[u16], g: usize, work: &mut [u16], at: usize)
+    requires { ⌜ LineRoom rows (length (now a)) (length (now b)) g (at + 24 * (rows + 1)) (length (now work)) ⌝ }
+    ensures { λ _. ⌜ LaidLine (source rows (now (a .entry)) (now (b .entry))) g (rows + 1) at (now (work .entry)) (now (work .exit)) ⌝ }
 {
     let mut i = 0;
     while i < rows {
-        let r = line(a, 256 * (start + step * i) + 16 * g);
+        let r = line(a, 256 * i + 16 * g);
         put(&r, work, at + 24 * i);
         i += 1;
     }
@@ -48,13 +39,13 @@ fn lay_line(
 }
 
 // The operands, from the front.
-fn lay(rows: usize, a: &[u16], start: usize, step: usize, b: &[u16], work: &mut [u16])
-    requires { ⌜ LayRoom rows (length (now a)) start step (length (now b)) (length (now work)) ⌝ }
-    ensures { λ _. ⌜ Laid rows (source rows (now (a .entry)) start step (now (b .entry))) 16 (now (work .entry)) (now (work .exit)) ⌝ }
+fn lay(rows: usize, a: &[u16], b: &[u16], work: &mut [u16])
+    requires { ⌜ LayRoom rows (length (now a)) (length (now b)) (length (now work)) ⌝ }
+    ensures { λ _. ⌜ Laid rows (source rows (now (a .entry)) (now (b .entry))) 16 (now (work .entry)) (now (work .exit)) ⌝ }
 {
     let mut g = 0;
     while g < 16 {
-        lay_line(rows, a, start, step, b, g, work, 24 * ((rows + 1) * g));
+        lay_line(rows, a, b, g, work, 24 * ((rows + 1) * g));
         g += 1;
     }
 }
@@ -102,23 +93,13 @@ fn fold(rows: usize, work: &[u16], x: usize, out: &mut [u16])
     }
 }
 
-// To polynomial i of out the product of b and polynomial start + step i of a, modulo 65536, for each i below rows; the caller lends the
-// places to work in.
-pub fn rows_add(
-    rows: usize,
-    a: &[u16],
-    start: usize,
-    step: usize,
-    b: &[u16],
-    work: &mut [u16],
-    out: &mut [u16],
-)
-    requires { ⌜ RowsRoom rows (length (now a)) start step (length (now b)) (length (now work)) (length (now out)) ⌝ }
-    ensures { λ _. ⌜ now (out .exit)
-        ≡ rowsAdded rows (λ (i : ℕ). poly (now (a .entry)) (start + step * i)) (now (b .entry)) (now (out .entry)) ⌝ }
+// To each polynomial of out the product of b and the same one of a, modulo 65536; the caller lends the places to work in.
+pub fn rows_add(rows: usize, a: &[u16], b: &[u16], work: &mut [u16], out: &mut [u16])
+    requires { ⌜ RowsRoom rows (length (now a)) (length (now b)) (length (now work)) (length (now out)) ⌝ }
+    ensures { λ _. ⌜ now (out .exit) ≡ rowsAdded rows (now (a .entry)) (now (b .entry)) (now (out .entry)) ⌝ }
 {
     let x = 384 * (rows + 1);
-    lay(rows, a, start, step, b, work);
+    lay(rows, a, b, work);
     halves::split(rows, 16, work, 0, x, x + 512 * rows);
     fold(rows, work, x, out);
 }
@@ -144,7 +125,7 @@ pub fn poly_mul_karatsuba(modulus: u32, a: &[u16], b: &[u16], product: &mut [u16
     }
     let mut work = [0u16; 2120];
     clear(product);
-    rows_add(1, a, 0, 1, b, &mut work, product);
+    rows_add(1, a, b, &mut work, product);
     ring::reduce(modulus as u16, product);
     0
 }

@@ -1,6 +1,8 @@
--- What the functions ask of the lengths of their arguments.
+-- What the functions ask of the lengths of their arguments, and what they gather.
 use Prim.Native.Nat.{ℕ, _+_, _*_, _<_, _≤_}
+use mathlib.Core.List.{List}
 use mathlib.Core.Path.{_≡_}
+use Rattle.algebra.specs.Ring.{inner, nat, residues, poly, blocks}
 
 -- what `cut_into` asks: packed polynomials of w bits a coefficient, 1 to 16; each row among them, and a place for it
 pub record CutRoom (w bytes start step rows out : ℕ) : Type 0 where
@@ -57,3 +59,7 @@ pub record ProductRoom (l A s cut work out : ℕ) : Type 0 where
   pub cutLong : 768 ≤ cut
   pub space : 4632 ≤ work
   pub room : out ≡ 256 * l
+
+-- for each i < rows the sum of the products of M i j and polynomial j of s, j < l, modulo m
+unfoldable pub sums : ℕ → ℕ → ℕ → (ℕ → ℕ → List ℕ) → List ℕ → List ℕ
+sums m rows l M s = blocks rows (λ i. residues m (inner 256 l (λ j. nat (M i j)) (λ j. poly (nat s) j)))

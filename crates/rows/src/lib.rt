@@ -6,8 +6,7 @@ ghost use lib.ListN.{length};
 ghost use Rattle.algebra.specs.Ring.{nat, poly, blocks};
 ghost use Rattle.packing.specs.Packing.{unpacked};
 ghost use Rattle.vectors.specs.Vectors.{innerMod, matrixRow, matrixVector, side};
-ghost use Rattle.vectors.specs.Rooms.{sums};
-ghost use Rattle.rows.specs.Rooms.{CutRoom, SumsRoom, WordsRoom, InnerRoom, RowsRoom, ProductRoom};
+ghost use Rattle.rows.specs.Rooms.{CutRoom, SumsRoom, WordsRoom, InnerRoom, RowsRoom, ProductRoom, sums};
 use karatsuba::clear;
 use karatsuba::rows_add;
 use ring::reduce;
@@ -56,7 +55,7 @@ fn sums_into(
         let p = 256 * j;
         let e = p + 256;
         cut_into(width, bytes, start + column * j, row, rows, cut);
-        rows_add(rows, cut, 0, 1, &s[p..e], work, out);
+        rows_add(rows, cut, &s[p..e], work, out);
         j += 1;
     }
 }
@@ -71,7 +70,7 @@ pub fn inner_words_into(l: usize, a: &[u16], s: &[u16], work: &mut [u16], out: &
     while j < l {
         let p = 256 * j;
         let e = p + 256;
-        rows_add(1, a, j, 0, &s[p..e], work, out);
+        rows_add(1, &a[p..e], &s[p..e], work, out);
         j += 1;
     }
 }

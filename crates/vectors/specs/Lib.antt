@@ -1,3 +1,2 @@
 pub mod Vectors
-pub mod Rooms
 pub mod Laws

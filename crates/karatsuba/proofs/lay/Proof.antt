@@ -10,10 +10,10 @@ use Rattle.karatsuba.proofs.lay.Statement.{statement}
 use Rattle.karatsuba.proofs.lay.Tie as tie
 
 abbrev Inv-loop : tie.InvT-loop
-Inv-loop rows a start step b work₀ g₀ work g = (g ≤ 16) × Laid rows (source rows a start step b) g work₀ work
+Inv-loop rows a b work₀ g₀ work g = (g ≤ 16) × Laid rows (source rows a b) g work₀ work
 
 abbrev μ-loop : tie.MeasureT-loop
-μ-loop rows a start step b work₀ g₀ work g = 16 - g
+μ-loop rows a b work₀ g₀ work g = 16 - g
 
 -- line g stands in the slice
 within :

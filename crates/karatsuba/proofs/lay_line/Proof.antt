@@ -3,24 +3,17 @@ use Prim.Native.Nat.{ℕ, _≤_, _+_, _*_, _-_}
 use mathlib.Core.List.{List}
 use mathlib.Core.Path.{_≡_, sym, ap}
 use native.Mathlib.Omega.{arith}
-use lib.ListN.{length, getD}
+use lib.ListN.{getD}
 use Rattle.karatsuba.specs.Rooms.{LaidLine, source}
 use Rattle.karatsuba.specs.Laws.Lay.{laid-none, laid-more, row-line, source-last}
 use Rattle.karatsuba.proofs.lay_line.Statement.{statement}
 use Rattle.karatsuba.proofs.lay_line.Tie as tie
 
 abbrev Inv-loop : tie.InvT-loop
-Inv-loop rows a start step b g work₀ at i₀ work i = (i ≤ rows) × LaidLine (source rows a start step b) g i at work₀ work
+Inv-loop rows a b g work₀ at i₀ work i = (i ≤ rows) × LaidLine (source rows a b) g i at work₀ work
 
 abbrev μ-loop : tie.MeasureT-loop
-μ-loop rows a start step b g work₀ at i₀ work i = rows - i
-
--- row i stands in a
-within :
-    (c : tie.In-loop Inv-loop μ-loop) →
-    let x = c .before .before .before .before .before .args in
-    256 * (x .start + x .step * c .before .loop .i) + 256 ≤ length (x .a .now)
-within c = c .before .before .before .before .before .pre .factors (c .before .loop .i) (c .loop-test .taken)
+μ-loop rows a b g work₀ at i₀ work i = rows - i
 
 pub lay-line-spec : {M : Type 1} → statement M
 lay-line-spec =
@@ -29,12 +22,10 @@ lay-line-spec =
     Inv-loop
     μ-loop
     (λ c. (omega arith, laid-none))
-    (λ c. omega (arith, within c))
-    (λ c. omega (arith, within c))
-    (λ c. omega (arith, within c))
     (λ c. omega arith)
-    (λ c. omega (arith, within c))
-    (λ c κs. omega (arith, within c, c .before .before .before .before .before .pre .lines))
+    (λ c. omega arith)
+    (λ c. omega arith)
+    (λ c κs. omega (arith, c .before .before .before .before .before .pre))
     (λ c. omega arith)
     (λ c. omega arith)
     (λ c. omega arith)
@@ -50,7 +41,7 @@ lay-line-spec =
     let d = l .before in
     let s = d .before .before .before .before in
     let x = s .args in
-    let row = row-line (x .rows) (x .a .now) (x .start) (x .step) (x .b .now) (d .loop .i) (x .g) in (
+    let row = row-line (x .rows) (x .a .now) (x .b .now) (d .loop .i) (x .g) in (
       omega arith,
       laid-more (d .loop .inv .1) (r .line .ensures) (u .put .ensures) (λ t h. row t (l .loop-test .taken) (s .pre .lines) h),
     ))
@@ -68,4 +59,4 @@ lay-line-spec =
     let x = d .before .before .before .before .args in
     let e : d .loop .i ≡ x .rows = omega arith in
     laid-more (rw e at (d .loop .inv .1)) (c .before .before .before .before .before .line2 .ensures) (c .before .before .put2 .ensures)
-    (λ t h. ap (λ (l : List ℕ). getD l (16 * x .g + t) 0) (sym (source-last (x .rows) (x .a .now) (x .start) (x .step) (x .b .now))))))
+    (λ t h. ap (λ (l : List ℕ). getD l (16 * x .g + t) 0) (sym (source-last (x .rows) (x .a .now) (x .b .now))))))

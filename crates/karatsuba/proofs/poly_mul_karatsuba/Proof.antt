@@ -21,7 +21,7 @@ poly-mul-karatsuba-spec =
     let e = c .before .before .before .before .before .before .before .mul-answer .ensures in
     let z = c .before .before .before .before .before .before .if1 .left in
     let f = mul-factors (x .modulus) (x .a .now) (x .b .now) (x .product .now) e z in
-    record { most = omega arith; factors = λ i h. omega (arith, f); factor = f .second; space = omega arith; room = omega (arith, f .room) })
+    record { most = omega arith; factors = omega (arith, f); factor = f .second; space = omega arith; room = omega (arith, f .room) })
     (λ c. search mul-fits)
     (λ c κs. search mul-modulus)
     (λ c. search needs)

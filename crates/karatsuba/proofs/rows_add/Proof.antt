@@ -21,7 +21,7 @@ rows-add-spec =
     let l = c .before .before .before in
     let s = l .before .before .before .before .before .before in
     let x = s .args in
-    rows-room (x .rows) (x .a .now) (x .start) (x .step) (x .b .now) (s .pre) (l .lay .ensures) refl)
+    rows-room (x .rows) (x .a .now) (x .b .now) (s .pre) (l .lay .ensures) refl)
     (λ c κs.
     let h = c .before .before .before .before in
     let l = h .before .before .before .before in
@@ -36,5 +36,5 @@ rows-add-spec =
     let l = h .before .before .before .before in
     let s = l .before .before .before .before .before .before in
     let x = s .args in
-    rows-done (x .rows) (x .a .now) (x .start) (x .step) (x .b .now) (s .pre) (l .lay .ensures) refl _ (h .split .ensures)
+    rows-done (x .rows) (x .a .now) (x .b .now) (s .pre) (l .lay .ensures) refl _ (h .split .ensures)
     (c .before .before .fold .ensures)))

@@ -116,19 +116,16 @@ module _ {rows : ℕ} {f : ℕ → List ℕ} {w : List ℕ} where
         go (no p) = operand-past rows 16 w′ 0 i k (omega arith) ∙ sym (ap pos (List·getD-eq-default (f i) 0 (omega arith)))
 
 -- ---- the operands: polynomials of a, and behind them b
-module _ (rows : ℕ) (a : List ℕ) (start step : ℕ) (b : List ℕ) where
-  pub source-row : (i : ℕ) → i < rows → source rows a start step b i ≡ poly a (start + step * i)
+module _ (rows : ℕ) (a b : List ℕ) where
+  pub source-row : (i : ℕ) → i < rows → source rows a b i ≡ poly a i
   unfolding source
   source-row i h = rw (lt-ltb i rows h)
 
-  pub source-last : source rows a start step b rows ≡ b
+  pub source-last : source rows a b rows ≡ b
   unfolding source
   source-last = rw (le-ltb rows rows (omega arith))
 
-  pub row-line :
-      (i g t : ℕ) → i < rows → g < 16 → t < 16 →
-      getD a (256 * (start + step * i) + 16 * g + t) 0 ≡ getD (source rows a start step b i) (16 * g + t) 0
+  pub row-line : (i g t : ℕ) → i < rows → g < 16 → t < 16 → getD a (256 * i + 16 * g + t) 0 ≡ getD (source rows a b i) (16 * g + t) 0
   row-line i g t hi hg ht =
-      let x = start + step * i in
-      let e : 256 * x + 16 * g + t ≡ 256 * x + (16 * g + t) = omega arith in
-      rw (source-row i hi, e) (sym (getD-take 256 (drop (256 * x) a) (16 * g + t) 0 (omega arith) ∙ getD-drop (256 * x) a (16 * g + t) 0))
+      let e : 256 * i + 16 * g + t ≡ 256 * i + (16 * g + t) = omega arith in
+      rw (source-row i hi, e) (sym (getD-take 256 (drop (256 * i) a) (16 * g + t) 0 (omega arith) ∙ getD-drop (256 * i) a (16 * g + t) 0))

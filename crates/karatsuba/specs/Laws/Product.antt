@@ -42,8 +42,8 @@ module _ {rows x free i : ℕ} {w w′ : List ℕ} (p b : List ℕ) (lp : length
       long : (c : List ℕ) → length c ≡ 256 → length (nat c) ≤ 256
       long c l = omega (arith, length-map c pos)
 
-module _ (rows : ℕ) (a : List ℕ) (start step : ℕ) (b : List ℕ) {work out : ℕ} (r : RowsRoom rows (length a) start step (length b) work out) {w w1 : List ℕ}
-    (l : Laid rows (source rows a start step b) 16 w w1) (size : length w ≡ work) where
+module _ (rows : ℕ) (a b : List ℕ) {work out : ℕ} (r : RowsRoom rows (length a) (length b) work out) {w w1 : List ℕ}
+    (l : Laid rows (source rows a b) 16 w w1) (size : length w ≡ work) where
   pub rows-room : SplitRoom rows 16 0 (384 * (rows + 1)) (384 * (rows + 1) + 512 * rows) w1
   rows-room = record {
     most = r .most;
@@ -59,21 +59,21 @@ module _ (rows : ℕ) (a : List ℕ) (start step : ℕ) (b : List ℕ) {work out
   pub rows-done :
       (old : List ℕ) {w2 new : List ℕ} → Halved rows 16 0 (384 * (rows + 1)) (384 * (rows + 1) + 512 * rows) w1 w2 →
       new ≡ blocks rows (λ i. from 256 (foldRow w2 (384 * (rows + 1) + 16 * i) (16 * rows) (poly old i))) →
-      new ≡ rowsAdded rows (λ i. poly a (start + step * i)) b old
+      new ≡ rowsAdded rows a b old
   unfolding rowsAdded
   rows-done old h e =
       e ∙ blocks-cong rows _ _ (λ i hi.
-      from-cong 256 _ _ (row-coef (poly a (start + step * i)) b (long i hi) (r .factor) hi (row i hi) last h (poly old i)))
+      from-cong 256 _ _ (row-coef (poly a i) b (long i hi) (r .factor) hi (row i hi) last h (poly old i)))
     where
-      long : (i : ℕ) → i < rows → length (poly a (start + step * i)) ≡ 256
-      long i hi = simp (length-take, length-drop) (omega (arith, r .factors i hi))
+      long : (i : ℕ) → i < rows → length (poly a i) ≡ 256
+      long i hi = simp (length-take, length-drop) (omega (arith, r .factors))
 
-      row : (i : ℕ) → i < rows → (k : ℕ) → operand rows 16 w1 0 i k ≡ reads (poly a (start + step * i)) k
+      row : (i : ℕ) → i < rows → (k : ℕ) → operand rows 16 w1 0 i k ≡ reads (poly a i) k
       row i hi k =
-          let e = source-row rows a start step b i hi in
+          let e = source-row rows a b i hi in
           rw e at (laid-operand l i (omega arith) (ap length e ∙ long i hi) k)
 
       last : (k : ℕ) → operand rows 16 w1 0 rows k ≡ reads b k
       last k =
-          let e = source-last rows a start step b in
+          let e = source-last rows a b in
           rw e at (laid-operand l rows (omega arith) (ap length e ∙ r .factor) k)

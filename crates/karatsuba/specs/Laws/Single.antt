@@ -1,5 +1,5 @@
 -- One row added to zeros is the ring product; so both calls of the ring product agree.
-use Prim.Native.Nat.{ℕ, _+_, _*_, _<_}
+use Prim.Native.Nat.{ℕ, _<_}
 use mathlib.Core.List.{List}
 use mathlib.Core.Path.{_≡_, refl, sym, _∙_, ap}
 use native.Mathlib.Omega.{arith}
@@ -24,8 +24,7 @@ zero-at k h =
     rw (take-all 256 none (omega (arith, length-from {A = ℕ} 256 (λ k. 0)))) (at-nat none k ∙ ap pos (from-at 256 (λ (k : ℕ). 0) 0 k h))
 
 pub single :
-    (a b : List ℕ) {zeros new : List ℕ} → length a ≡ 256 → zeros ≡ none →
-    new ≡ rowsAdded 1 (λ i. poly a (0 + 1 * i)) b zeros → new ≡ product 65536 a b
+    (a b : List ℕ) {zeros new : List ℕ} → length a ≡ 256 → zeros ≡ none → new ≡ rowsAdded 1 a b zeros → new ≡ product 65536 a b
 unfolding rowsAdded product mul blocks
 single a b la z e =
     (rw z at e)

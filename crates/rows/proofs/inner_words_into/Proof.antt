@@ -1,18 +1,18 @@
 -- `rows::inner_words_into` meets its contract: after the zeros, each turn adds one product.
-use Prim.Native.Nat.{_≤_, _+_, _*_, _-_}
+use Prim.Native.Nat.{_≤_, _-_}
 use mathlib.Core.Path.{_≡_, refl, _∙_}
 use native.Mathlib.Omega.{arith}
 use borrow.Author.Needs.{needs}
 use lib.ListN.{length, length-take, length-drop}
-use Rattle.algebra.specs.Ring.{poly}
-use Rattle.vectors.specs.Rooms.{sums}
-use Rattle.vectors.specs.Laws.Turns.{sums-none, sums-more, inner-words}
+use Rattle.algebra.specs.Ring.{nat}
+use Rattle.vectors.specs.Vectors.{innerMod}
+use Rattle.rows.specs.Laws.Sums.{inner-none, inner-next}
 use Rattle.rows.proofs.inner_words_into.Statement.{statement}
 use Rattle.rows.proofs.inner_words_into.Tie as tie
 
 abbrev Inv-loop : tie.InvT-loop
 Inv-loop l a s work₀ out₀ j₀ work out j =
-    (out ≡ sums 65536 1 j (λ i j. poly a (j + 0 * i)) s) × (j ≤ l) × (length work ≡ length work₀) × (length out ≡ length out₀)
+    (out ≡ innerMod 65536 j a (nat s)) × (j ≤ l) × (length work ≡ length work₀) × (length out ≡ length out₀)
 
 abbrev μ-loop : tie.MeasureT-loop
 μ-loop l a s work₀ out₀ j₀ work out j = l - j
@@ -22,11 +22,11 @@ start-of c = c .before .before .before .before .before .before .before .before .
 
 rows-add-requires : tie.Need-rows-add-requires Inv-loop μ-loop
 rows-add-requires c κs =
-    let k = c .before .before .before in
+    let k = c .before .before .before .before in
     let room = start-of k .pre in
     record {
       most = omega arith;
-      factors = λ i h. omega (arith, room .first, k .loop-test .taken);
+      factors = simp (length-take, length-drop) (omega (arith, room .first, k .loop-test .taken));
       factor = simp (length-take, length-drop) (omega (arith, room .second, k .loop-test .taken));
       space = omega (arith, room .space, k .before .loop .inv .2);
       room = omega (arith, room .room, k .before .loop .inv .3);
@@ -35,9 +35,10 @@ rows-add-requires c κs =
 loop-again : tie.Need-loop-again Inv-loop μ-loop
 loop-again c =
     let adds = c .before .before .before .before in
-    let k = adds .before .before .before .before in
+    let k = adds .before .before .before .before .before in
     let a = start-of k .args in (
-      sums-more (λ i j. poly (a .a .now) (j + 0 * i)) (a .s .now) 1 (k .before .loop .j) (k .before .loop .inv .0) (adds .rows-add .ensures),
+      inner-next (a .a .now) (a .s .now) (k .before .loop .j) (omega (arith, start-of k .pre .first, k .loop-test .taken)) (k .before .loop .inv .0)
+          (adds .rows-add .ensures),
       omega arith,
       search needs,
       search needs,
@@ -52,7 +53,12 @@ inner-words-into-spec =
     (λ c κs. search needs)
     (λ c.
     let z = c .before .before in
-    (z .clear .ensures ∙ rw (z .before .before .before .before .before .before .pre .room) (sums-none _ _ 1), omega arith, refl, refl))
+    let s = z .before .before .before .before .before .before in
+    (z .clear .ensures ∙ rw (s .pre .room) (inner-none (s .args .a .now) (s .args .s .now)), omega arith, refl, refl))
+    (λ c. search needs)
+    (λ c. search needs)
+    (λ c. search needs)
+    (λ c. search needs)
     (λ c. search needs)
     (λ c. search needs)
     (λ c. search needs)
@@ -67,6 +73,5 @@ inner-words-into-spec =
     (λ c. search needs)
     (λ c.
     let t = c .before .loop in
-    let a = c .before .before .before .before .before .before .before .before .before .before .args in
-    let e : t .j ≡ a .l = omega arith in
-    inner-words 65536 (a .l) (a .a .now) (a .s .now) (rw e at (t .inv .0))))
+    let e : t .j ≡ c .before .before .before .before .before .before .before .before .before .before .args .l = omega arith in
+    rw e at (t .inv .0)))

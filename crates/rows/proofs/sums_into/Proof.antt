@@ -7,9 +7,9 @@ use borrow.Author.Needs.{needs}
 use lib.ListN.{length, length-take, length-drop}
 use Rattle.algebra.specs.Ring.{poly}
 use Rattle.packing.specs.Packing.{unpacked}
-use Rattle.vectors.specs.Rooms.{sums}
-use Rattle.vectors.specs.Laws.Turns.{sums-none}
-use Rattle.rows.specs.Laws.Rows.{count-fits, part-long, column-more}
+use Rattle.rows.specs.Rooms.{sums}
+use Rattle.rows.specs.Laws.Rows.{count-fits, part-long}
+use Rattle.rows.specs.Laws.Sums.{sums-none, sums-more}
 use Rattle.rows.proofs.sums_into.Statement.{statement}
 use Rattle.rows.proofs.sums_into.Tie as tie
 
@@ -63,7 +63,7 @@ rows-add-requires c κs =
     let room = start-of k .pre in
     record {
       most = room .few;
-      factors = λ i h. omega (arith, room .cutLong, t .cutLong, cuts .cut-into .kept .1 .1 .1 .1 .1 .0);
+      factors = omega (arith, room .cutLong, t .cutLong, cuts .cut-into .kept .1 .1 .1 .1 .1 .0);
       factor = simp (length-take, length-drop) (omega (arith, room .vector, k .loop-test .taken));
       space = omega (arith, room .space, t .workLong);
       room = omega (arith, room .room, t .outLong);
@@ -83,7 +83,7 @@ loop-again c =
       workLong = search needs;
       outLong = search needs;
       sum =
-          column-more (λ i j. poly (unpacked (a .width) (a .bytes .now)) (a .start + a .column * j + a .row * i)) (a .s .now) _ (a .rows) (t .j)
+          sums-more (λ i j. poly (unpacked (a .width) (a .bytes .now)) (a .start + a .column * j + a .row * i)) (a .s .now) (a .rows) (t .j)
           (λ i h.
           part-long (a .width) _ (s .pre .count) (a .bytes .now) (s .pre .least) (s .pre .whole) (s .pre .parts i (t .j) h (k .loop-test .taken)))
           (cuts .cut-into .ensures) (t .inv .sum) (adds .rows-add .ensures);

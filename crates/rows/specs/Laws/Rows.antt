@@ -3,26 +3,21 @@ use Prim.Native.Nat.{ℕ, _+_, _-_, _*_, _%_, _<_, _≤_}
 use mathlib.Core.Bool.{Bool, true, cond, not}
 use mathlib.Core.List.{List, map}
 use mathlib.Core.Path.{_≡_, refl, sym, _∙_, ap, fun-ext}
-use native.Mathlib.Nat.{mul-add, mul-le-mul, one-mul, zero-add, le-refl}
+use native.Mathlib.Nat.{mul-add, mul-le-mul, le-refl}
 use native.Mathlib.Omega.{arith}
-use lib.IntN.{_+ℤ_}
 use lib.ListN.{length, take, drop, length-take, length-drop}
-use Rattle.lists.specs.Lists.{from}
 use Rattle.lists.specs.Numbers.{Below}
 use Rattle.lists.specs.Laws.Parts.{mid-part}
-use Rattle.algebra.specs.Integers.{modℤ}
-use Rattle.algebra.specs.Ring.{at, coef, inner, nat, poly, blocks}
-use Rattle.algebra.specs.Laws.Vectors.{poly-blocks, blocks-cong, map-blocks}
+use Rattle.algebra.specs.Ring.{inner, nat, poly, blocks}
+use Rattle.algebra.specs.Laws.Vectors.{blocks-cong, map-blocks}
 use Rattle.packing.specs.Packing.{unpacked}
 use Rattle.packing.specs.Laws.Packing.{recut-length}
 use Rattle.packing.specs.Laws.Polynomials.{unpacked-part}
 use Rattle.ring.specs.Products.{isModulus}
 use Rattle.ring.specs.Laws.Products.{reduced}
-use Rattle.karatsuba.specs.Rooms.{rowsAdded}
 use Rattle.vectors.specs.Vectors.{innerMod, matrixRow, side}
-use Rattle.vectors.specs.Rooms.{sums}
-use Rattle.vectors.specs.Laws.Turns.{sums-more}
 use Rattle.vectors.specs.Laws.Vectors.{strided, within}
+use Rattle.rows.specs.Rooms.{sums}
 
 -- packed polynomials are no more than their bytes
 pub count-fits : (w count : ℕ) {bytes : ℕ} → 1 ≤ w → bytes ≡ 32 * w * count → count ≤ bytes
@@ -40,19 +35,6 @@ pub part-long :
 part-long w x count bytes some whole h =
     let e = recut-length 8 w (256 * count) bytes some (rw whole (omega arith)) in
     simp (length-take, length-drop) (omega (arith, e))
-
--- one column more: its polynomials, cut one behind another, are the rows' factors
-pub column-more :
-    (M : ℕ → ℕ → List ℕ) (s cut : List ℕ) (rows j : ℕ) {acc out : List ℕ} → ((i : ℕ) → i < rows → length (M i j) ≡ 256) →
-    cut ≡ blocks rows (λ i. M i j) → acc ≡ sums 65536 rows j M s →
-    out ≡ rowsAdded rows (λ i. poly cut (0 + 1 * i)) (take (256 * j + 256 - 256 * j) (drop (256 * j) s)) acc → out ≡ sums 65536 rows (j + 1) M s
-unfolding rowsAdded
-column-more M s cut rows j {acc} long e p q =
-    sums-more M s rows j p
-    (q ∙ blocks-cong rows _ _ (λ i h.
-    let same : poly cut (0 + 1 * i) ≡ M i j = rw (zero-add, one-mul, e) (poly-blocks rows (λ i. M i j) long i h) in
-    ap (λ (t : List ℕ). from 256 (λ k.
-    modℤ (at (nat (poly acc i)) k +ℤ coef 256 (nat t) (nat (take (256 * j + 256 - 256 * j) (drop (256 * j) s))) k) 65536)) same))
 
 -- the sums reduced
 sums-reduced :
