@@ -1,5 +1,6 @@
 -- `exchange::rows_with` meets its contract: the rows, rounded, and packed to their places.
 use mathlib.Core.Path.{_∙_}
+use native.Mathlib.Omega.{arith}
 use borrow.Author.Needs.{needs}
 use Rattle.algebra.specs.Ring.{nat}
 use Rattle.packing.specs.Packing.{unpacked}
@@ -26,9 +27,8 @@ rows-with-spec =
     let made = made-of rounded in
     let start = made .before .before .before .before .before .before .before .before .before .before in
     let a = start .args in
-    rows-room (a .l) (side (a .transposed) (a .l) (unpacked 13 (a .matrix .now))) (nat (a .secret .now)) (a .first) (a .rows) _
-    (made .rows-into .ensures) (rounded .round-into .ensures) (start .pre .room .within)
-    (start .pre .outLong))
+    rows-room (a .l) (side (a .transposed) (a .l) (unpacked 13 (a .matrix .now))) (nat (a .secret .now)) (a .first) (a .rows) _ _
+    (made .rows-into .ensures) (rounded .round-into .ensures) (omega (arith, start .pre .room .within, start .pre .outLong)))
     (λ c. search needs)
     (λ c. search needs)
     (λ c. search needs)

@@ -46,9 +46,9 @@ length-rounded n f long = length-map (blocks n f) round ∙ length-blocks 256 n 
 
 -- they go to their places
 pub rows-room :
-    (l : ℕ) (M : ℕ → ℕ → List ℕ) (s : List ℤ) (first n out : ℕ) {x r : List ℕ} → x ≡ blocks n (λ k. matrixRow l M s (first + k)) →
-    r ≡ map round x → first + n ≤ l → 320 * l ≤ out → PlacesRoom 10 n r (320 * first) out
-rows-room l M s first n out p q within room =
+    (l : ℕ) (M : ℕ → ℕ → List ℕ) (s : List ℤ) (first n place out : ℕ) {x r : List ℕ} → x ≡ blocks n (λ k. matrixRow l M s (first + k)) →
+    r ≡ map round x → place + 320 * n ≤ out → PlacesRoom 10 n r place out
+rows-room l M s first n place out p q room =
     rw (q, p)
     (record {
       least = omega arith;

@@ -69,12 +69,13 @@ loop-again c =
     let n = k .some-rows .result in
     let last = made .rows-into .last .1 .1 .1 .1 .1 .1 in
     let kept = made .rows-into .kept .1 .1 .1 .1 .1 .1 in
+    let rows : last .1 .1 .0 ≡ blocks n (λ (j : ℕ). row (t .i + j)) = made .rows-into .ensures in
     record {
       within = omega (arith, k .some-rows .ensures .2, k .before .loop-test .taken);
       cutLong = same-len-mid 0 (256 * n - 0) (t .cut) (last .0) (kept .0) ∙ t .inv .cutLong;
       workLong = kept .1 .0 ∙ t .inv .workLong;
       front =
-          rw (blocks-append (t .i) n row, mul-add 256 (t .i) n, ← made .rows-into .ensures)
+          rw (blocks-append (t .i) n row, mul-add 256 (t .i) n, ← rows)
           (prefix-part _ (t .inv .front) (omega arith) (places k) (kept .1 .1 .0));
     }
 
