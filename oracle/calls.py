@@ -62,7 +62,7 @@ ROLES = {
     "set": Number(1, saber.NUMBERS),
     "width": Number(2, {width: width for width in saber.WIDTHS}),
     "modulus": Number(2, {modulus: modulus for modulus in saber.MODULI}),
-    "door": Optional(16),
+    "door": Optional(32),
     "time": Optional(64),
     "any": Slice("bytes"),
     "seed": Slice("bytes", 32, 3),
@@ -151,6 +151,8 @@ class Call(NamedTuple):
             return len(given.record) > saber.set_place(given.record[0])
         if question == 11:
             return len(given.record) == saber.record_length(saber.fields_in(given.record[0]), given.set)
+        if question == 12:
+            return not saber.holds_narrow_door(given.record)
         pairs = zip(self.parameters, arguments)
         return all(len(value) == p.role.size(given) for p, value in pairs if p.question == question)
 
@@ -205,7 +207,7 @@ TABLE = [
     call("sha3_512", "input: any", "digest: digest_512", 9),
     call("public_key_of", "set, secret_key", "", 1, 5),
     call("write_record", "door, time, set, ciphertext", "record", 1, 6, 9),
-    call("read_record", "record", "ciphertext", 10, 11, 1, 11, 9, handed="door, time, set"),
+    call("read_record", "record", "ciphertext", 10, 11, 1, 11, 12, 9, handed="door, time, set"),
 ]
 CALLS = {call.name: call for call in TABLE}
 

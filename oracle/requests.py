@@ -533,10 +533,13 @@ def decrypt_section():
     yield from scheme_refusals("decrypt", sound)
 
 
-# Records: doors and times, and which of them an entry has
+# Records: doors (those past 65535 are wide, A7) and times, which of them an entry has, and the maps
 
-DOORS, TIMES = (0, 255, 256, 65535), (0, 1, 1 << 32, 1 << 63, (1 << 64) - 1)
-PRESENT = ((None, None), (0x1234, None), (None, 0x0102030405060708), (0x1234, 0x0102030405060708))
+DOORS = (0, 255, 256, 65535, 65536, 65537, 1 << 31, (1 << 32) - 1)
+TIMES = (0, 1, 1 << 32, 1 << 63, (1 << 64) - 1)
+SHORT, WIDE, TIME = 0x1234, 0x12345678, 0x0102030405060708
+PRESENT = ((None, None), (SHORT, None), (None, TIME), (SHORT, TIME), (WIDE, None), (WIDE, TIME))
+MAPS = (12, 13, 14, 15, 28, 30)  # 12 with bit 0 or 4 or neither, and with bit 1 or without it
 
 
 def any_ciphertext(number):
@@ -549,7 +552,8 @@ def entry_record(door, time, number):
 
 
 def in_words(door, time):
-    return " and ".join(name for name, number in (("door", door), ("time", time)) if number is not None) or "neither"
+    doors = [] if door is None else ["door" if door <= 65535 else "wide door"]
+    return " and ".join(doors + ["time"] * (time is not None)) or "neither"
 
 
 def write_record_section():
@@ -560,7 +564,7 @@ def write_record_section():
         return ask("write_record", *sound(door, time, number), stated=(0, [entry_record(door, time, number)]))
 
     for number in saber.NUMBERS:
-        yield f"# write_record, set {number}: door and time missing, each there alone, both there"
+        yield f"# write_record, set {number}: door and time missing, each there alone, both there; a wide door"
         for door, time in PRESENT:
             yield written(door, time, number)
     yield "# write_record: doors and times"
@@ -574,9 +578,13 @@ def write_record_section():
     for ours, theirs in itertools.permutations(PRESENT, 2):
         lent = sound(*theirs, 1)[4]
         yield ask("write_record", *sound(*ours, 1)[:4], lent, stated=(9, [lent]))
-    for number in saber.NUMBERS:
-        ciphertext, lent = sound(None, 1, number % 3 + 1)[3:]
-        yield ask("write_record", None, 1, number, ciphertext, lent, stated=(6, [lent]))
+    for number, door in itertools.product(saber.NUMBERS, (None, WIDE)):
+        ciphertext, lent = sound(door, 1, number % 3 + 1)[3:]
+        yield ask("write_record", door, 1, number, ciphertext, lent, stated=(6, [lent]))
+    yield "# write_record: the last short door and the first wide one, each with a record for the other"
+    for (ours, theirs), time in itertools.product(((65535, 65536), (65536, 65535)), (None, TIME)):
+        lent = sound(theirs, time, 1)[4]
+        yield ask("write_record", *sound(ours, time, 1)[:4], lent, stated=(9, [lent]))
 
 
 def unread(answer, record, lent):
@@ -603,29 +611,80 @@ def misread(record, lent, *faults):
 def read_refusals(door, time):
     """Two refusals at once, each pair, then more. A record that is cut before its set byte has no bad one."""
     record, lent = entry_record(door, time, 1), lent_bytes(736)
-    place = len(record) - len(lent) - 1
-    # Every bit of the map once, and one where a field is missing
-    maps = [Fault(10, 0, map_turned(bit)) for bit in ((4, 5, 6, 7, 2, 3) if door and time else (7,))]
+    place, wide = len(record) - len(lent) - 1, door == WIDE
+    # Every bit of the map once that may not be turned, the other door's first, and one where a field is missing
+    other_door = 0 if wide else 4
+    maps = [Fault(10, 0, map_turned(bit)) for bit in ((other_door, 5, 6, 7, 2, 3) if door and time else (7,))]
     cut = Fault(11, 0, lambda record: record[:place])
     set_byte = Fault(1, 0, lambda record: with_byte(record, place, 4))
     longer = Fault(11, 0, lambda record: record + b"0")
+    shorter = Fault(11, 0, lambda record: record[:-1])
+    narrow = [Fault(12, 0, lambda record: record[:1] + bytes.fromhex("ffff0000") + record[5:])] if wide else []
     output = Fault(9, 1, lambda lent: lent[:-1])
     yield f"# read_record, {in_words(door, time)}: two refusals at once, then more"
-    for two in itertools.product(maps, (cut, set_byte, longer, output)):
-        yield misread(record, lent, *two)
-    for two in ((cut, output), (set_byte, longer), (set_byte, output), (longer, output)):
-        yield misread(record, lent, *two)
-    yield misread(record, lent, set_byte, longer, output)
-    yield misread(record, lent, maps[0], set_byte, longer, output)
+    for one, other in itertools.combinations((maps, [cut], [set_byte], [longer, shorter], narrow, [output]), 2):
+        for two in itertools.product(one, other):
+            if two[0] is not cut or two[1] in (*narrow, output):
+                yield misread(record, lent, *two)
+    chains = ([maps[0], *between, *narrow, output] for between in ([set_byte, longer], [set_byte, shorter], [cut]))
+    more = [itertools.combinations(chain, count) for chain in chains for count in range(3, len(chain) + 1)]
+    for some in dict.fromkeys(itertools.chain(*more)):
+        yield misread(record, lent, *some)
+
+
+def accepted(door, time, number, ciphertext):
+    record, lent = laid_record(door, time, number, ciphertext), lent_bytes(len(ciphertext))
+    return ask("read_record", record, lent, stated=(0, [door, time, number, ciphertext]))
+
+
+def every_map():
+    """Every map, alone and before the rest of a record with either door."""
+    yield "# read_record: every map alone"
+    for bit_map in range(256):
+        yield unread(11 if bit_map in MAPS else 10, bytes([bit_map]), lent_bytes(2))
+    # Under another map another byte is the set byte: for those of MAPS the one at 1, 3, 9, 11, 5 and 13, which may be
+    # missing or in the ciphertext. For each of them stand the answers to the start of a record and to a whole one.
+    assert any_ciphertext(1)[1] == 2
+    for title, entry, answers in (
+        ("door", (0x0301, 0x0002000000000004, 1), ((11, 11), (1, 1), (11, 11), (11, 0), (1, 1), (11, 11))),
+        ("wide door", (0x00020304, 0x0001000000000003, 1), ((1, 1), (11, 11), (1, 1), (11, 11), (11, 11), (11, 0))),
+    ):
+        whole = laid_record(*entry, any_ciphertext(1))
+        yield f"# read_record: every map before {title}, time and set byte, and before a whole record"
+        for bit_map in range(256):
+            start, answer = dict(zip(MAPS, answers)).get(bit_map, (10, 10))
+            yield unread(start, bytes([bit_map]) + whole[1:-736], lent_bytes(2))
+            if answer:
+                yield unread(answer, bytes([bit_map]) + whole[1:], lent_bytes(736 if bit_map in MAPS else 2))
+        yield accepted(*entry, any_ciphertext(1))
+
+
+def wide_doors():
+    """What wide fields may hold and what they may not, both doors at once, and records that end with a wide field."""
+    for number in saber.SETS:
+        ciphertext, times = any_ciphertext(number), (None, TIME)
+        lent = lent_bytes(len(ciphertext))
+        yield f"# read_record, set {number}: wide fields that hold 65535 or less, also to wrong lengths, then more"
+        for wide, time in itertools.product((0, 1, 255, 256, 65535), times):
+            yield unread(12, laid_record(None, time, number, ciphertext, wide), lent)
+        for length, time in itertools.product((0, len(lent) + 1, saber.SETS[number % 3 + 1].ciphertext), times):
+            yield unread(12, laid_record(None, time, number, ciphertext, 65535), lent_bytes(length))
+        for door, time in itertools.product((65536, 1 << 24), times):
+            yield accepted(door, time, number, ciphertext)
+        yield f"# read_record, set {number}: a wide field and the length that a short one requires"
+        for wide, time in itertools.product((0, 65535, 65536), times):
+            yield unread(11, laid_record(None, time, number, ciphertext, wide)[:-2], lent)
+        yield f"# read_record, set {number}: both doors, two numbers and the same one"
+        for wide, time in itertools.product((0, SHORT, 65536, WIDE), times):
+            yield unread(10, laid_record(SHORT, time, number, ciphertext, wide), lent)
+    yield "# read_record: records that end within a wide field, or with it"
+    for bit_map, wide, length in itertools.product((28, 30), (0, 65535, 65536, WIDE), range(1, 5)):
+        yield unread(11, bytes([bit_map]) + wide.to_bytes(4, "little")[:length], lent_bytes(2))
 
 
 def read_record_section():
-    def accepted(door, time, number, ciphertext):
-        record, lent = laid_record(door, time, number, ciphertext), lent_bytes(len(ciphertext))
-        return ask("read_record", record, lent, stated=(0, [door, time, number, ciphertext]))
-
     for number, set in saber.SETS.items():
-        yield f"# read_record, set {number}: door and time missing, each there alone, both there"
+        yield f"# read_record, set {number}: door and time missing, each there alone, both there; a wide door"
         for door, time in PRESENT:
             yield accepted(door, time, number, any_ciphertext(number))
         yield f"# read_record, set {number}: ciphertexts of 0 and of ones"
@@ -634,21 +693,11 @@ def read_record_section():
     yield "# read_record: doors and times"
     for door, time in itertools.product((None, *DOORS), (None, *TIMES)):
         yield accepted(door, time, 1, any_ciphertext(1))
-
-    # Where the map lacks a field, another byte is the set byte: 1 for neither, 4 for a door alone, 2 for a time alone.
-    whole = laid_record(0x0301, 0x0002000000000004, 1, any_ciphertext(1))
-    yield "# read_record: every map, alone, before door, time and set byte, and before a whole record"
-    for bit_map in range(256):
-        answer = {12: 11, 13: 1, 14: 11, 15: 11}.get(bit_map, 10)
-        yield unread(11 if bit_map in range(12, 16) else 10, bytes([bit_map]), lent_bytes(2))
-        yield unread(answer, bytes([bit_map]) + whole[1:12], lent_bytes(2))
-        if bit_map != 15:
-            lent = lent_bytes(736 if bit_map in range(12, 16) else 2)
-            yield unread(answer, bytes([bit_map]) + whole[1:], lent)
-    yield accepted(0x0301, 0x0002000000000004, 1, any_ciphertext(1))
-    yield "# read_record: every set byte, in a record that ends with it"
-    for byte in range(256):
-        yield unread(11 if byte in (1, 2, 3) else 1, bytes([12, byte]), lent_bytes(2))
+    yield from every_map()
+    yield from wide_doors()
+    yield "# read_record: every set byte, in a record that ends with it: no door, a wide one, a wide field of 65535"
+    for byte, start in itertools.product(range(256), ("0c", "1c00000100", "1cffff0000")):
+        yield unread(11 if byte in (1, 2, 3) else 1, bytes.fromhex(start) + bytes([byte]), lent_bytes(2))
 
     for number, (door, time) in itertools.product(saber.SETS, PRESENT):
         if number > 1 and not (door and time):
@@ -657,7 +706,7 @@ def read_record_section():
         place = len(record) - size - 1
         title = f"read_record, set {number}, {in_words(door, time)}"
         yield f"# {title}: lengths one under, at and one over where each field ends"
-        ends = {1, 1 + 2 * (door is not None), place, place + 1, len(record)}
+        ends = {1, {None: 1, SHORT: 3, WIDE: 5}[door], place, place + 1, len(record)}
         for length in sorted({end + step for end in ends for step in (-1, 0, 1)} - {len(record)}):
             yield unread(11 if length else 10, (record + b"0")[:length], lent_bytes(size))
         yield f"# {title}: bad set bytes, those of other sets, wrong lengths of the output"
@@ -901,11 +950,22 @@ def notation_section():
     yield from normal()
 
     yield "# notation: numbers that may be missing"
-    for door, time in ((b"-", b"-"), (b"0", b"-"), (b"-", b"0"), (b"65535", b"18446744073709551615")):
+    for door, time in (
+        (b"-", b"-"), (b"0", b"-"), (b"-", b"0"), (b"65535", b"18446744073709551615"), (b"65536", b"-"),
+        (b"4294967295", b"18446744073709551615"),
+    ):
         yield Line(b"write_record %s %s 4 - a5" % (door, time), b"1 a5")
     yield Line(b"write_record 00000000000000000000000065535 - 4 - a5", b"1 a5")
+    yield Line(b"write_record 0000000000000000000004294967295 - 4 - a5", b"1 a5")
     yield Line(b"write_record - 00000000000000000000018446744073709551615 4 - a5", b"1 a5")
     yield Line(b"write_record " + b"0" * 5000 + b" " + b"0" * 5000 + b"1 2 - a5", b"6 a5")
+    yield Line(b"write_record " + b"0" * 5000 + b"4294967295 - 2 - a5", b"6 a5")
+    for door in (b"65536", b"131071", b"99999", b"4294967295", b"0065536"):
+        yield Line(b"write_record %s - 4 - -" % door, b"1 -")
+    yield Line(b"write_record 65537 - 1 - -", b"6 -")
+    ciphertext, lent = any_ciphertext(1).hex().encode(), lent_bytes(742).hex().encode()
+    for door, start in ((b"0065536", b"1c0000010001"), (b"04294967295", b"1cffffffff01"), (b"99999", b"1c9f86010001")):
+        yield Line(b" ".join((b"write_record", door, b"- 1", ciphertext, lent)), b"0 " + start + ciphertext)
     yield from unreadable(
         "bad digit",
         b"write_record -- - 4 - -", b"write_record - -- 4 - -", b"write_record --- - 4 - -",
@@ -916,14 +976,15 @@ def notation_section():
         b"write_record - 1.5 4 - -", b"write_record \xe2\x88\x92 - 4 - -", b"write_record \0 - 4 - -",
         b"write_record -\r - 4 - -", b"write_record - -\t 4 - -", b"write_record - - - - -", b"write_record - - -",
         b"write_record - - -- - -", b"write_record - -  - -", b"write_record 65536x - 4 - -",
-        b"write_record - 18446744073709551616- 4 - -",
+        b"write_record 4294967296x - 4 - -", b"write_record - 18446744073709551616- 4 - -",
     )
     yield from unreadable(
         "too large",
-        b"write_record 65536 - 4 - -", b"write_record 65537 - 1 - -", b"write_record 131071 - 4 - -",
-        b"write_record 99999 - 4 - -", b"write_record 4294967295 - 4 - -", b"write_record 4294967296 - 4 - -",
-        b"write_record 4294967297 - 4 - -", b"write_record 0065536 - 4 - -",
-        b"write_record 18446744073709551616 - 4 - -", b"write_record 1" + b"0" * 5000 + b" - 4 - -",
+        b"write_record 4294967296 - 4 - -", b"write_record 4294967297 - 4 - -", b"write_record 4294967297 - 1 - -",
+        b"write_record 4295032832 - 4 - -", b"write_record 8589934591 - 4 - -", b"write_record 9999999999 - 4 - -",
+        b"write_record 42949672950 - 4 - -", b"write_record 004294967296 - 4 - -",
+        b"write_record 18446744073709551616 - 4 - -", b"write_record 18446744073709617152 - 4 - -",
+        b"write_record 1" + b"0" * 5000 + b" - 4 - -",
         b"write_record - 18446744073709551616 4 - -", b"write_record - 18446744073709551617 1 - -",
         b"write_record - 18446744073709551625 4 - -", b"write_record - 18446744078004518912 4 - -",
         b"write_record - 36893488147419103232 4 - -", b"write_record - 99999999999999999999 4 - -",
@@ -939,22 +1000,26 @@ def notation_section():
         "bad digit",
         b"write_record x 18446744073709551616 4 0 0", b"write_record - x 4294967296 0 0", b"write_record x",
         b"write_record - x", b"write_record - - x", b"write_record - - 4 0g 0", b"write_record - - 4 - 0g",
+        b"write_record 65536 x 4 0 0", b"write_record 4294967295 x",
         b"read_record 0g -", b"read_record -- -", b"read_record  -", b"read_record ", b"read_record - ",
         b"read_record - zz", b"read_record - -- -", b"read_record -  -",
     )
     yield from unreadable(
         "too large",
-        b"write_record 65536 x 4 0 0", b"write_record 65536", b"write_record - 18446744073709551616 x 0 0",
-        b"write_record - 18446744073709551616", b"write_record - - 4294967296 0", b"write_record 65536 - 4 - - -",
+        b"write_record 4294967296 x 4 0 0", b"write_record 4294967296", b"write_record - 18446744073709551616 x 0 0",
+        b"write_record - 18446744073709551616", b"write_record - - 4294967296 0",
+        b"write_record 4294967296 - 4 - - -", b"write_record 65536 18446744073709551616 4 - -",
     )
     yield from unreadable(
         "odd count",
         b"write_record - - 4 0 -", b"write_record - - 4 - 0", b"write_record 1 2 4 000 zz", b"read_record 0 -",
-        b"read_record - 0", b"read_record 0c0 0", b"read_record zzz -",
+        b"read_record - 0", b"read_record 0c0 0", b"read_record zzz -", b"write_record 4294967295 - 4 0 -",
+        b"read_record 1c000001000 -",
     )
     yield from unreadable(
         "wrong count",
         b"write_record", b"write_record -", b"write_record - -", b"write_record - - 4", b"write_record - - 4 -",
+        b"write_record 65536", b"write_record 65536 - 4 - - -", b"write_record 4294967295",
         b"write_record - - 4 - - -", b"write_record - - 4 - - ", b"read_record", b"read_record -",
         b"read_record 0c01", b"read_record - - -", b"read_record - - ", b"read_record - - - - -",
     )
@@ -966,6 +1031,9 @@ def notation_section():
     yield Line(b"read_record - -", b"10 - - - -")
     yield Line(b"read_record 0C04 A5", b"1 - - - a5")
     yield Line(b"read_record 0c01 a5", b"11 - - - a5")
+    yield Line(b"read_record 1C00000100 A5", b"11 - - - a5")
+    yield Line(b"read_record 1C0000000004 A5", b"1 - - - a5")
+    yield Line(b"read_record 1D A5", b"10 - - - a5")
     yield from normal()
 
     yield from signed_notation()

@@ -298,7 +298,7 @@ def decaps(set, secret_key, ciphertext):
     return sha3_256(z + sha3_256(ciphertext))
 
 
-# Records (A1): a byte with a bit map, then the fields whose bit stands, numbers little-endian
+# Records (A1, wide doors A7): a byte with a bit map, then the fields whose bit stands, numbers little-endian
 
 
 class Field(NamedTuple):
@@ -308,8 +308,10 @@ class Field(NamedTuple):
     needed: bool
 
 
+SHORT, WIDE = Field("door", 0, 2, False), Field("door", 4, 4, False)  # a door has the one or the other (A7)
 FIELDS = (  # in the order in which they stand
-    Field("door", 0, 2, False),
+    SHORT,
+    WIDE,
     Field("time", 1, 8, False),
     Field("set", 2, 1, True),
     Field("ciphertext", 3, None, True),
@@ -320,10 +322,16 @@ def fields_in(map):
     return [field for field in FIELDS if map >> field.bit & 1]
 
 
+def is_wide(door):
+    """Whether a door is written wide: one up to 65535 is still written short (A7)."""
+    return door > 65535
+
+
 def fields_for(door, time):
     """The fields of an entry; a door or time of None is missing."""
     missing = [name for name, number in (("door", door), ("time", time)) if number is None]
-    return [field for field in FIELDS if field.name not in missing]
+    other = SHORT if door is not None and is_wide(door) else WIDE
+    return [field for field in FIELDS if field.name not in missing and field != other]
 
 
 def map_of(fields):
@@ -331,9 +339,10 @@ def map_of(fields):
 
 
 def is_map(map):
-    """Whether each bit that stands is a field's, and those of the needed fields stand."""
+    """Whether each bit that stands is a field's, not both doors' (A7), and those of the needed fields stand."""
     fields = fields_in(map)
-    return map == map_of(fields) and all(field in fields for field in FIELDS if field.needed)
+    both = SHORT in fields and WIDE in fields
+    return map == map_of(fields) and not both and all(field in fields for field in FIELDS if field.needed)
 
 
 def record_length(fields, set):
@@ -372,6 +381,12 @@ def read_record(record):
         string, at = record[at:end], end
         entry[field.name] = string if field.length is None else int.from_bytes(string, "little")
     return [entry.get(name) for name in ("door", "time", "set", "ciphertext")]
+
+
+def holds_narrow_door(record):
+    """Whether a wide field holds 65535 or less (A7)."""
+    door, *_ = read_record(record)
+    return WIDE in fields_in(record[0]) and not is_wide(door)
 
 
 # The noise

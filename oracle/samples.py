@@ -2,6 +2,7 @@
 counted bit by bit, rejected secrets and records put together by hand, and NIST's published vectors.
 """
 
+import functools
 import hashlib
 import struct
 from pathlib import Path
@@ -44,6 +45,7 @@ def flipped(string, place):
     return with_bit_turned(string, 8 * place + place % 8)
 
 
+@functools.cache
 def lent_bytes(length):
     """What an output holds when it is lent: never 0, and different from place to place."""
     return bytes(0xA0 + i % 16 for i in range(length))
@@ -74,11 +76,18 @@ def rejected_secret(z, ciphertext):
     return hashlib.sha3_256(z + hashlib.sha3_256(ciphertext).digest()).digest()
 
 
-def laid_record(door, time, number, ciphertext):
-    """A record with its fields one behind the other, laid by hand and not by the oracle's table of them."""
-    bit_map = 12 + (door is not None) + 2 * (time is not None)
-    numbers = (b"" if door is None else struct.pack("<H", door)) + (b"" if time is None else struct.pack("<Q", time))
-    return bytes([bit_map]) + numbers + bytes([number]) + ciphertext
+def laid_record(door, time, number, ciphertext, wide=None):
+    """A record with its fields one behind the other, laid by hand and not by the oracle's table of them.
+
+    A door is short up to 65535 and wide above (A7). `wide` fills a wide field as no sound record has it: with a number
+    up to 65535, or beside a short door.
+    """
+    if door is not None and door > 65535:
+        door, wide = None, door
+    bit_map = 12 + (door is not None) + 2 * (time is not None) + 16 * (wide is not None)
+    fields = (("<H", door), ("<I", wide), ("<Q", time))
+    strings = [struct.pack(form, value) for form, value in fields if value is not None]
+    return bytes([bit_map]) + b"".join(strings) + bytes([number]) + ciphertext
 
 
 def vectors(file):

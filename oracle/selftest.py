@@ -7,6 +7,7 @@ papers say must hold.
 import hashlib
 import itertools
 import sys
+from collections import Counter
 from unittest import mock
 
 import drbg
@@ -575,12 +576,14 @@ def refusals():
 
 
 SIZES = {1: 736, 2: 1088, 3: 1472}  # of a ciphertext
-DOORS, TIMES = (None, 0, 1, 255, 256, 0x1234, 65535), (None, 0, 1, 255, 1 << 32, 1 << 63, (1 << 64) - 1)
+DOORS = (None, 0, 1, 255, 256, 0x1234, 65535)
+WIDE_DOORS = (65536, 65537, 1 << 17, 1 << 24, 0x12345678, 1 << 31, (1 << 32) - 1)
+TIMES = (None, 0, 1, 255, 1 << 32, 1 << 63, (1 << 64) - 1)
 
 
 def records():
-    """A1's layout in figures, and that reading and writing undo each other."""
-    door, time = 0x1234, 0x0102030405060708
+    """The layout of A1 and A7 in figures, and that reading and writing undo each other."""
+    door, wide, time = 0x1234, 0x12345678, 0x0102030405060708
     for number, stored in ((0, "02"), (1, "01"), (2, "02"), (3, "03")):
         size = SIZES[int(stored)]
         ciphertext = draw(f"selftest record {number}", size)
@@ -591,6 +594,13 @@ def records():
             ((door, time), "0f34120807060504030201", size + 12),
             ((0, 0), "0f00000000000000000000", size + 12),
             ((65535, 2**64 - 1), "0fffffffffffffffffffff", size + 12),
+            ((65535, None), "0dffff", size + 4),
+            ((wide, None), "1c78563412", size + 6),
+            ((wide, time), "1e785634120807060504030201", size + 14),
+            ((65536, None), "1c00000100", size + 6),
+            ((65536, 0), "1e000001000000000000000000", size + 14),
+            ((2**32 - 1, None), "1cffffffff", size + 6),
+            ((2**32 - 1, 2**64 - 1), "1effffffffffffffffffffffff", size + 14),
         ):
             record = bytes.fromhex(start + stored) + ciphertext
             written = run("write_record", *entry, number, ciphertext, bytes(length))
@@ -601,7 +611,7 @@ def records():
                 refused = run("write_record", *entry, number, ciphertext, bytes(wrong))
                 check(f"set {number}, {entry}: {wrong} bytes", refused == (9, [bytes(wrong)]))
 
-    for entry in itertools.product(DOORS, TIMES, SIZES):
+    for entry in itertools.product(DOORS + WIDE_DOORS, TIMES, SIZES):
         ciphertext = draw(f"selftest entry {entry}", SIZES[entry[2]])
         record = laid_record(*entry, ciphertext)
         check(f"{entry}: written", run("write_record", *entry, ciphertext, bytes(len(record))) == (0, [record]))
@@ -609,53 +619,148 @@ def records():
 
 
 def refusal_of(record, lent):
-    """The reader's answer, from the request's sentences alone."""
-    if not record or record[0] & 0xF0 or not record[0] & 4 or not record[0] & 8:
+    """The reader's answer, from the sentences of A1 and A7 alone."""
+    if not record or record[0] & 0xE0 or record[0] & 17 == 17 or not record[0] & 4 or not record[0] & 8:
         return 10
-    place = 1 + 2 * (record[0] & 1) + 4 * (record[0] & 2)
+    place = 1 + 2 * (record[0] & 1) + 4 * (record[0] & 2) + (record[0] & 16) // 4
     if len(record) <= place:
         return 11
     if record[place] not in SIZES:
         return 1
     if len(record) != place + 1 + SIZES[record[place]]:
         return 11
+    if record[0] & 16 and record[3] == record[4] == 0:
+        return 12
     return 9 if lent != SIZES[record[place]] else 0
 
 
 def readings():
     """Every refusal of a read: cases in figures, then every map and many lengths, set bytes and outputs at once."""
-    check("read_record: its questions in order", CALLS["read_record"].questions == (10, 11, 1, 11, 9))
+    check("read_record: its questions in order", CALLS["read_record"].questions == (10, 11, 1, 11, 12, 9))
 
     def reads(record, lent, answer):
         read = run("read_record", record, lent_bytes(lent))
         refused = (answer, [None, None, None, lent_bytes(lent)])
-        check(f"reading {record[:12].hex()}, {len(record)} bytes, to {lent}", read == refused)
+        check(f"reading {record[:16].hex()}, {len(record)} bytes, to {lent}", read == refused)
 
     for start, length, lent, answer in (
-        ("", 0, 736, 10), ("00", 1, 0, 10), ("04", 1, 0, 10), ("08", 1, 0, 10), ("1c01", 738, 736, 10),
+        ("", 0, 736, 10), ("00", 1, 0, 10), ("04", 1, 0, 10), ("08", 1, 0, 10), ("1c01", 738, 736, 1),
         ("2c01", 738, 736, 10), ("4c01", 738, 736, 10), ("8c01", 738, 736, 10), ("0401", 738, 736, 10),
         ("0801", 738, 736, 10), ("ff", 748, 736, 10), ("0c", 1, 736, 11), ("0d", 3, 736, 11), ("0e", 9, 736, 11),
         ("0f", 11, 736, 11), ("0c00", 738, 736, 1), ("0c04", 738, 736, 1), ("0cff", 738, 736, 1), ("0d", 4, 736, 1),
         ("0e", 10, 736, 1), ("0f", 12, 736, 1), ("0c01", 2, 736, 11), ("0c01", 737, 736, 11), ("0c01", 739, 736, 11),
         ("0c02", 738, 736, 11), ("0c01", 1090, 1088, 11), ("0c01", 738, 735, 9), ("0c01", 738, 737, 9),
         ("0c01", 738, 0, 9), ("0c01", 738, 1088, 9), ("0f0100000000000000000003", 1484, 1471, 9),
+        # wide doors
+        ("1c", 1, 736, 11), ("1c", 2, 736, 11), ("1c", 5, 736, 11), ("1c", 6, 736, 1), ("1e", 13, 736, 11),
+        ("1e", 14, 736, 1), ("1c0000010004", 742, 736, 1), ("1c0000010001", 6, 736, 11),
+        ("1c0000010001", 741, 736, 11), ("1c0000010001", 743, 736, 11), ("1c0000010001", 742, 735, 9),
+        ("1e00000100000000000000000003", 1486, 1471, 9), ("1c0000000001", 742, 736, 12),
+        ("1c0100000001", 742, 736, 12), ("1cff00000001", 742, 736, 12), ("1c0001000001", 742, 736, 12),
+        ("1cffff000001", 742, 736, 12), ("1cffff000002", 1094, 1088, 12), ("1cffff000003", 1478, 1472, 12),
+        ("1effff0000ffffffffffffffff01", 750, 736, 12), ("1e00000000010000000000000003", 1486, 1472, 12),
+        # both doors, bit 4 with a bit above or without bit 2 or 3
+        ("1d", 1, 736, 10), ("1f", 1, 736, 10), ("1d34127856341201", 744, 736, 10), ("1d34123412000001", 744, 736, 10),
+        ("1f341278563412000000000000000001", 752, 736, 10), ("1d341201", 740, 736, 10), ("1d7856341201", 742, 736, 10),
+        ("10", 1, 0, 10), ("140000010001", 742, 736, 10), ("180000010001", 742, 736, 10),
+        ("3c0000010001", 742, 736, 10), ("5c0000010001", 742, 736, 10), ("9c0000010001", 742, 736, 10),
         # two at once
-        ("", 0, 5, 10), ("1c", 1, 5, 10), ("0405", 738, 736, 10), ("1c01", 739, 736, 10), ("0c", 1, 5, 11),
-        ("0c04", 739, 736, 1), ("0c04", 738, 5, 1), ("0c01", 739, 5, 11),
+        ("", 0, 5, 10), ("1c", 1, 5, 11), ("0405", 738, 736, 10), ("2c01", 739, 736, 10), ("0c", 1, 5, 11),
+        ("0c04", 739, 736, 1), ("0c04", 738, 5, 1), ("0c01", 739, 5, 11), ("1d3412ffff000001", 744, 736, 10),
+        ("3cffff000001", 742, 736, 10), ("14ffff000001", 742, 736, 10), ("1cffff0000", 5, 736, 11),
+        ("1cff", 2, 736, 11), ("1cffff000004", 742, 736, 1), ("1cffff000000", 742, 736, 1),
+        ("1cffff000001", 743, 736, 11), ("1cffff000001", 741, 736, 11), ("1cffff000001", 740, 736, 11),
+        ("1cffff000001", 6, 736, 11), ("1cffff000002", 742, 736, 11), ("1cffff000001", 742, 735, 12),
+        ("1cffff000001", 742, 0, 12), ("1cffff000001", 742, 1088, 12),
+        # more
+        ("1cffff0000", 5, 5, 11), ("1cffff000004", 743, 736, 1), ("1cffff000004", 742, 5, 1),
+        ("1cffff000001", 743, 5, 11), ("1cffff000001", 741, 5, 11), ("1cffff000004", 743, 5, 1),
+        ("3cffff000004", 743, 5, 10), ("1d3412ffff000004", 745, 5, 10),
     ):
         reads(bytes.fromhex(start).ljust(length, b"\0"), lent, answer)
 
+    answers = set()
     for bit_map, byte, size in itertools.product(range(256), (0, 1, 2, 3, 4, 255), SIZES.values()):
-        whole = bytes([bit_map]) + bytes([byte]) * 11 + draw("selftest reading", size)
-        for length, lent in ((1, size), (2, size), (12, size), (size + 2, size), (size + 12, size), (size + 12, 5)):
-            record = whole[:length]
-            answer = refusal_of(record, lent)
-            if answer:
-                reads(record, lent, answer)
-            else:
-                entry = run("read_record", record, lent_bytes(lent))
-                again = run("write_record", *entry[1], bytes(length))
-                check(f"map {bit_map}, {length} bytes: write after read", (entry[0], again) == (0, (0, [record])))
+        lengths = [1, 5, 6, 12, 14, *(size + head for head in (2, 4, 6, 10, 12, 14, 16))]
+        lents = [*((length, size) for length in lengths), *((size + head, 5) for head in (6, 12, 14))]
+        # The byte fills what follows the map, but of the first four places all or just one; the others of them hold 0
+        for first in ((byte,) * 4, (0, byte, 0, 0), (0, 0, byte, 0), (0, 0, 0, byte)):
+            whole = bytes([bit_map, *first]) + bytes([byte]) * 11 + draw("selftest reading", size)
+            for length, lent in lents:
+                record = whole[:length]
+                answer = refusal_of(record, lent)
+                answers.add((bit_map >> 4 & 1, answer))
+                if answer:
+                    reads(record, lent, answer)
+                else:
+                    entry = run("read_record", record, lent_bytes(lent))
+                    again = run("write_record", *entry[1], bytes(length))
+                    check(f"map {bit_map}, {length} bytes: write after read", (entry[0], again) == (0, (0, [record])))
+    stated = {(bit, answer) for bit in (0, 1) for answer in (0, 1, 9, 10, 11)} | {(1, 12)}
+    check("reading: the answers without bit 4 and with it", answers == stated)
+
+
+def read_before(record, lent):
+    """A1's reader, before A7: its answer and the entry, or on a refusal no field and the output as it is lent."""
+
+    def refused(answer):
+        return answer, [None, None, None, lent]
+
+    if not record or record[0] & 0xF0 or record[0] & 12 != 12:
+        return refused(10)
+    door, time = record[0] & 1, record[0] >> 1 & 1
+    place = 1 + 2 * door + 8 * time
+    if len(record) <= place:
+        return refused(11)
+    number = record[place]
+    if number not in SIZES:
+        return refused(1)
+    if len(record) != place + 1 + SIZES[number]:
+        return refused(11)
+    if len(lent) != SIZES[number]:
+        return refused(9)
+    door = record[1] + 256 * record[2] if door else None
+    time = sum(x << 8 * i for i, x in enumerate(record[place - 8 : place])) if time else None
+    return 0, [door, time, number, record[place + 1 :]]
+
+
+def old_records():
+    """Old records read as before: what A1's reader accepts gives the same entry, and maps below 16 the same answer.
+
+    What it refuses and A7 accepts has a wide door.
+    """
+    old, new, answers = Counter(), Counter(), set()  # the maps that A1 accepts, those that just A7 does; A1's answers
+
+    def compare(record, lent):
+        before, now = read_before(record, lent), run("read_record", record, lent)
+        label = f"{record[:16].hex()}, {len(record)} bytes, to {len(lent)}"
+        if before[0] == 0 or not record or record[0] < 16:
+            check(f"read as before: {label}", now == before)
+            answers.add(before[0])
+        if before[0] == 0:
+            old[record[0]] += 1
+        elif now[0] == 0:
+            check(f"a wide door: {label}", record[0] in (28, 30) and now[1][0] > 65535)
+            new[record[0]] += 1
+
+    for entry in itertools.product(DOORS, TIMES, SIZES):
+        ciphertext = draw(f"selftest old {entry}", SIZES[entry[2]])
+        compare(laid_record(*entry, ciphertext), lent_bytes(len(ciphertext)))
+    # In each set six doors and six times
+    check("old records, each accepted", old == {12: 3, 13: 6 * 3, 14: 6 * 3, 15: 6 * 6 * 3} and not new)
+
+    old.clear()
+    for bit_map, byte, size in itertools.product(range(256), (0, 1, 2, 3, 4, 255), SIZES.values()):
+        head = bytearray(draw(f"selftest old {bit_map}", 16))
+        head[0] = bit_map
+        for place in (1, 3, 5, 9, 11, 13):  # wherever a set byte may stand
+            head[place] = byte
+        whole = bytes(head) + draw("selftest old", size)
+        for length, lent in itertools.product((*range(17), *range(size + 1, size + 17)), (size, size + 1)):
+            compare(whole[:length], lent_bytes(lent))
+    # Of each map one string for each set
+    check("strings, some accepted", old == {12: 3, 13: 3, 14: 3, 15: 3} and new == {28: 3, 30: 3})
+    check("strings, every answer", answers == {0, 1, 9, 10, 11})
 
 
 def limits():
@@ -758,6 +863,9 @@ def lines():
         (b"public_key_of 4 -\n", b"-\n"),
         (b"shake128 00 -\n", b"0 -\n"),
         (b"read_record - a5\n", b"10 - - - a5\n"),
+        (b"read_record 1c a5\n", b"11 - - - a5\n"),
+        (b"write_record 4294967295 - 4 - a5\n", b"1 a5\n"),
+        (b"write_record 4294967296 - 4 - a5\n", b"error too large\n"),
         (b"gen_secret 4 - -\n", b"1 -\n"),
         (b"gen_secret 4 - -\r\n", b"error bad digit\n"),
         (b"gen_secret 2 - 0,-04,-0,127,-128", b"3 0,-4,0,127,-128\n"),
@@ -768,7 +876,7 @@ def lines():
 
 def main():
     parts = (cases, hashes, random_bytes, packing, ring, splitting, rounding, sampling, weights, residues, margin)
-    for part in (*parts, small_noise, margins, refusals, records, readings, limits, signed_lists, lines):
+    for part in (*parts, small_noise, margins, refusals, records, readings, old_records, limits, signed_lists, lines):
         part()
     for number in saber.NUMBERS:
         in_place(number)

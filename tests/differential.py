@@ -39,7 +39,7 @@ def damaged(draw, value):
     """A value with one bit changed, often near its start."""
     if not value:
         return value
-    place, changed = draw.randrange(draw.choice((len(value), min(len(value), 12)))), list(value)
+    place, changed = draw.randrange(draw.choice((len(value), min(len(value), 14)))), list(value)
     changed[place] ^= 1 << draw.randrange(8 if isinstance(value, bytes) else 16)
     return type(value)(changed)
 

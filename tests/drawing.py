@@ -33,8 +33,9 @@ def any_length(draw):
 
 
 def any_number(draw, bits):
-    """A number of so many bits, often at an edge."""
-    return draw.choice((0, 1, 255, 256, 1 << draw.randrange(bits), (1 << bits) - 1, draw.getrandbits(bits)))
+    """A number of so many bits, which are more than 16, often at an edge and on either side of the last short door."""
+    edges = (0, 1, 255, 256, 65535, 65536, 1 << draw.randrange(bits), (1 << bits) - 1)
+    return draw.choice((*edges, draw.getrandbits(16), draw.getrandbits(bits)))
 
 
 def any_content(draw, kind, length, elements=None):

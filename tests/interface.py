@@ -80,6 +80,7 @@ def refusals():
         "output_length": answer("pack", 1, [1] * saber.N, b""),
         "record_map": answer("read_record", b"", b""),
         "record_length": answer("read_record", bytes([12]), b""),
+        "record_door": answer("read_record", bytes([28, 0, 0, 0, 0, 2]) + bytes(saber.SETS[2].ciphertext), b""),
     }
 
 

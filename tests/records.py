@@ -19,11 +19,12 @@ import notation
 import saber
 from calls import CALLS
 from library import Breach, Library
-from samples import with_bit_turned
+from samples import laid_record, with_bit_turned
 
 WRITE, READ = CALLS["write_record"], CALLS["read_record"]
 LENGTHS = [set.ciphertext for set in saber.SETS.values()]
-HEAD = 12  # bytes before the ciphertext, at most
+MAPS = (12, 13, 14, 15, 28, 30)
+HEAD = 16  # bytes before the ciphertext, at most: both doors count
 
 
 # Changes of a record; `other` is another one
@@ -51,18 +52,31 @@ def spliced(draw, record, other):
 
 
 def other_map(draw, record, other):
-    return bytes([draw.choice((draw.randrange(12, 16), draw.randrange(256)))]) + record[1:]
+    """Any map that is one, the same but for bit 4, which often makes both doors, or any byte."""
+    return bytes([draw.choice((draw.choice(MAPS), record[0] ^ 16, draw.randrange(256)))]) + record[1:]
+
+
+def with_set_byte(record, byte):
+    place = saber.set_place(record[0])
+    return record[:place] + bytes([byte]) + record[place + 1 :]
 
 
 def other_set_byte(draw, record, other):
-    place = saber.set_place(record[0])
-    return record[:place] + bytes([draw.choice((0, 1, 2, 3, 4, 5, 6, 255, draw.randrange(256)))]) + record[place + 1 :]
+    return with_set_byte(record, draw.choice((0, 1, 2, 3, 4, 5, 6, 255, draw.randrange(256))))
+
+
+def narrow_wide_door(draw, record, other):
+    """A wide field that holds 65535 or less, and all else as it was."""
+    _, *rest = saber.read_record(record)
+    return laid_record(None, *rest, wide=draw.choice((0, 1, 255, 256, 65535, draw.randrange(65536))))
 
 
 def any_bytes(draw, record, other):
     """Any bytes behind any map that is one, or any bytes at all, often with a sound length."""
     string = draw.randbytes(draw.choice((len(record), draw.randrange(30), draw.randrange(1600))))
-    return string if draw.random() < 0.3 else bytes([draw.randrange(12, 16), draw.randrange(5)]) + string[2:]
+    if draw.random() < 0.3:
+        return string
+    return with_set_byte(bytes([draw.choice((*MAPS, 28, 30))]) + string[1:], draw.randrange(5))
 
 
 def unchanged(draw, record, other):
@@ -77,6 +91,7 @@ CHANGES = {
     "spliced": spliced,
     "another map": other_map,
     "another set byte": other_set_byte,
+    "a narrow wide door": narrow_wide_door,
     "any bytes": any_bytes,
     "to a wrong length": unchanged,
 }

@@ -23,24 +23,32 @@ static uint8_t *seed_of(uint8_t first) {
     return seed;
 }
 
-// A record with a door, and with a time or without.
-static void record_trip(uint32_t number, const uint8_t *ciphertext, size_t ct, uint8_t timed) {
-    const size_t count = 4 + 8 * timed + ct;
+// A record with a door, short or wide, and with a time or without.
+static void record_trip(uint32_t number, const uint8_t *ciphertext, size_t ct, uint32_t written, uint8_t timed) {
+    const uint8_t wide = written > 65535;
+    const size_t count = 4 + 2 * wide + 8 * timed + ct;
     uint8_t *record = block(count), *copy = block(ct), has_door = 9, has_time = 9;
-    uint16_t door = 9;
     uint64_t time = 9;
-    uint32_t set = 9;
-    CHECK(saber_write_record(1, 0x0102, timed, UINT64_MAX, number, ciphertext, ct, record, count) == SABER_OK);
-    CHECK(record[0] == (timed ? 15 : 13) && record[1] == 2 && record[2] == 1);
+    uint32_t door = 9, set = 9;
+    CHECK(saber_write_record(1, written, timed, UINT64_MAX, number, ciphertext, ct, record, count) == SABER_OK);
+    CHECK(record[0] == (wide ? 28 : 13) + 2 * timed);
+    for (int i = 0; i < 2 + 2 * wide; i++)
+        CHECK(record[1 + i] == (uint8_t)(written >> 8 * i));
     CHECK(memcmp(record + count - ct, ciphertext, ct) == 0);
 
     // A refusal leaves all as it was; so is the time where it is missing.
     CHECK(saber_read_record(record, 0, &has_door, &door, &has_time, &time, &set, copy, ct) == SABER_RECORD_MAP);
     CHECK(saber_read_record(record, 3, &has_door, &door, &has_time, &time, &set, copy, ct) == SABER_RECORD_LENGTH);
     CHECK(saber_read_record(record, count, &has_door, &door, &has_time, &time, &set, copy, 0) == SABER_OUTPUT_LENGTH);
+    if (wide) { // a wide field with a number for a short one
+        const uint8_t high[2] = {record[3], record[4]};
+        record[3] = record[4] = 0;
+        CHECK(saber_read_record(record, count, &has_door, &door, &has_time, &time, &set, copy, ct) == SABER_RECORD_DOOR);
+        memcpy(record + 3, high, 2);
+    }
     CHECK(has_door == 9 && door == 9 && has_time == 9 && time == 9 && set == 9);
     CHECK(saber_read_record(record, count, &has_door, &door, &has_time, &time, &set, copy, ct) == SABER_OK);
-    CHECK(has_door == 1 && door == 0x0102 && has_time == timed && time == (timed ? UINT64_MAX : 9));
+    CHECK(has_door == 1 && door == written && has_time == timed && time == (timed ? UINT64_MAX : 9));
     CHECK(set == (number == 0 ? 2 : number) && memcmp(copy, ciphertext, ct) == 0);
     free(record);
     free(copy);
@@ -85,8 +93,10 @@ static void round_trip(uint32_t number) {
     CHECK(saber_decaps(number, secret_key, sk, ciphertext, ct, received, SECRET) == SABER_OK);
     CHECK(memcmp(sent, received, SECRET) == 0);
     signed_secret(number, secret_seed, secret_key);
-    record_trip(number, ciphertext, ct, 0);
-    record_trip(number, ciphertext, ct, 1);
+    for (uint8_t timed = 0; timed < 2; timed++) {
+        record_trip(number, ciphertext, ct, 0x0102, timed);
+        record_trip(number, ciphertext, ct, 0x01020304, timed);
+    }
 
     // The message that encapsulation seals is the hash of its seed.
     CHECK(saber_decrypt(number, secret_key, plain, ciphertext, ct, message, MESSAGE) == SABER_OK);

@@ -1,12 +1,12 @@
 // secrets SET: every call on content that is marked as undefined, for valgrind's memcheck, which then reports each
 // jump and each address that depends on it. tests/secrets.py runs this and holds the reports against a list.
 //
-// Seeds, messages, hash inputs, coefficients, and doors and times of records are marked; keys and ciphertexts are what
-// the calls make of them, the public ones too. Outputs are lent defined, so what is undefined afterwards came from a
-// mark: each of their elements has to be, all but a record's map and set bytes, from which a reader's answer follows,
-// and secrets that are read from a table. No answer may be but where Q8 asks about content. Prints each call with the
-// number of reports that it gave. tests/interface.py holds the calls, and what their answers follow from, against the
-// oracle's table.
+// Seeds, messages, hash inputs, coefficients, and doors and times of records are marked, of a door its lower two bytes:
+// the upper ones decide which field it has. Keys and ciphertexts are what the calls make of them, the public ones too.
+// Outputs are lent defined, so what is undefined afterwards came from a mark: each of their elements has to be, all but
+// a record's map and set bytes and a wide door's upper bytes, from which a reader's answer follows, and secrets that
+// are read from a table. No answer may be but where Q8 asks about content. Prints each call with the number of reports
+// that it gave. tests/interface.py holds the calls, and what their answers follow from, against the oracle's table.
 #include "check.h"
 #include "sets.h"
 #include <stdio.h>
@@ -30,8 +30,8 @@ static size_t undefined(const void *elements, size_t count, size_t size) {
 #define ALL_SECRET(elements, count) CHECK(undefined(elements, count, sizeof *(elements)) == (count))
 #define NONE_SECRET(elements, count) CHECK(undefined(elements, count, sizeof *(elements)) == 0)
 
-// What an answer follows from: what is not marked, set numbers, lengths and the two bytes of a record, or the content
-// too where Q8 asks about it.
+// What an answer follows from: what is not marked, set numbers, lengths and those bytes of a record, or the content too
+// where Q8 asks about it.
 enum { BY_LENGTHS, BY_CONTENT };
 
 #define ANSWERS(number, by, name, ...)                            \
@@ -161,17 +161,18 @@ static void layers(uint32_t set) {
     }
 }
 
-// Records with and without a door and a time.
+// Records with no door, a short one and a wide one, each with and without a time.
 static void records(uint32_t set) {
-    static uint8_t record[12 + FIRESABER_CIPHERTEXT_BYTES];
+    static const uint32_t doors[] = {0, 5, 0x30005}, door_sizes[] = {0, 2, 4};
+    static uint8_t record[14 + FIRESABER_CIPHERTEXT_BYTES];
     size_t ct = sets[set].ciphertext;
-    for (uint8_t fields = 0; fields < 4; fields++) {
-        uint8_t has_door = fields & 1, has_time = fields >> 1, has[2] = {0};
-        uint16_t door = 5, door_read = 0;
+    for (uint8_t fields = 0; fields < 6; fields++) {
+        uint8_t has_door = fields % 3 > 0, has_time = fields / 3, has[2] = {0};
+        uint32_t door = doors[fields % 3], door_size = door_sizes[fields % 3], door_read = 0;
         uint64_t time = 7, time_read = 0;
         uint32_t set_read = 0;
-        size_t start = 2 + 2 * has_door + 8 * has_time, count = start + ct; // where the ciphertext starts, and all
-        VALGRIND_MAKE_MEM_UNDEFINED(&door, sizeof door);
+        size_t start = 2 + door_size + 8 * has_time, count = start + ct; // where the ciphertext starts, and all
+        VALGRIND_MAKE_MEM_UNDEFINED(&door, 2);
         VALGRIND_MAKE_MEM_UNDEFINED(&time, sizeof time);
         mark_bytes(ciphertext, ct);
         VALGRIND_MAKE_MEM_DEFINED(record, count);
@@ -180,7 +181,9 @@ static void records(uint32_t set) {
         NONE_SECRET(record, count);
         ANSWERS(SABER_OK, BY_LENGTHS, write_record, has_door, door, has_time, time, set, ciphertext, ct, record, count);
         NONE_SECRET(record, 1);
-        ALL_SECRET(record + 1, start - 2);
+        ALL_SECRET(record + 1, 2 * has_door);
+        NONE_SECRET(record + 1 + 2 * has_door, door_size - 2 * has_door);
+        ALL_SECRET(record + 1 + door_size, 8 * has_time);
         NONE_SECRET(record + start - 1, 1);
         ALL_SECRET(record + start, ct);
 

@@ -13,10 +13,9 @@ static uint8_t seeds[4][32], public_key[FIRESABER_PUBLIC_KEY_BYTES], secret_key[
 static uint8_t ciphertext[FIRESABER_CIPHERTEXT_BYTES], message[32], bytes[416], digest[64];
 static uint16_t matrix[16 * SABER_N], a[SABER_N], b[SABER_N], c[SABER_N];
 static int8_t secret[4 * SABER_N];
-static uint8_t record[12 + FIRESABER_CIPHERTEXT_BYTES], has_door, has_time;
-static uint16_t door;
+static uint8_t record[14 + FIRESABER_CIPHERTEXT_BYTES], has_door, has_time;
 static uint64_t hour;
-static uint32_t number;
+static uint32_t door, number;
 
 // Every call that writes something; tests/interface.py holds the list against the oracle's table.
 #define ALL(x) x, sizeof(x) / sizeof *(x)
@@ -38,7 +37,7 @@ static uint32_t number;
     DO(shake128, ALL(secret_key), ALL(bytes))                                                      \
     DO(sha3_256, ALL(secret_key), digest, 32)                                                      \
     DO(sha3_512, ALL(secret_key), ALL(digest))                                                     \
-    DO(write_record, 1, 2, 1, 3, SET, ALL(ciphertext), ALL(record))                                \
+    DO(write_record, 1, 65536, 1, 3, SET, ALL(ciphertext), ALL(record))                            \
     DO(read_record, ALL(record), &has_door, &door, &has_time, &hour, &number, ALL(ciphertext))
 
 #define DEFINE(name, ...) \

@@ -53,6 +53,7 @@ pub enum Refusal {
     OutputLength = 9,
     RecordMap = 10,
     RecordLength = 11,
+    RecordDoor = 12,
 }
 
 impl fmt::Display for Refusal {
@@ -67,8 +68,9 @@ impl fmt::Display for Refusal {
             Refusal::InputLength => "an input list is not 256 coefficients, or a string to unpack not 32 x width bytes",
             Refusal::CoefficientRange => "a coefficient is not below its modulus",
             Refusal::OutputLength => "an output has not the length of its result",
-            Refusal::RecordMap => "the record is empty, or its map has bits that no field has or lacks set or ciphertext",
+            Refusal::RecordMap => "the record is empty, or its map has bits that no field has, has both doors, or lacks set or ciphertext",
             Refusal::RecordLength => "the record has not the length that its map and set byte require",
+            Refusal::RecordDoor => "the record has a wide door that is 65535 or less",
         })
     }
 }
@@ -89,6 +91,7 @@ fn result(answer: u8) -> Result<(), Refusal> {
         9 => Refusal::OutputLength,
         10 => Refusal::RecordMap,
         11 => Refusal::RecordLength,
+        12 => Refusal::RecordDoor,
         _ => unreachable!("no call answers {answer}"),
     })
 }
@@ -171,7 +174,7 @@ pub fn public_key_of(set: u32, secret_key: &[u8]) -> &[u8] {
 extern "C" {
     fn saber_write_record(
         has_door: u8,
-        door: u16,
+        door: u32,
         has_time: u8,
         time: u64,
         set: u32,
@@ -184,7 +187,7 @@ extern "C" {
         record: *const u8,
         record_count: usize,
         has_door: *mut u8,
-        door: *mut u16,
+        door: *mut u32,
         has_time: *mut u8,
         time: *mut u64,
         set: *mut u32,
@@ -196,15 +199,15 @@ extern "C" {
 /// What a record holds besides its ciphertext. The set's number is 1, 2 or 3.
 #[derive(Clone, Copy, Debug, PartialEq, Eq)]
 pub struct Entry {
-    pub door: Option<u16>,
+    pub door: Option<u32>,
     pub time: Option<u64>,
     pub set: u32,
 }
 
-/// Writes the record of an entry: a byte with a bit map, then door (2 bytes), time (8 bytes), set (1 byte) and ciphertext, low bytes first.
-/// A missing door or time takes no bytes, so that a record has 2 bytes, 2 more with a door, 8 more with a time, and the ciphertext. Set 0
-/// is stored as the set that it means. Writing and [`read_record`] undo each other.
-pub fn write_record(door: Option<u16>, time: Option<u64>, set: u32, ciphertext: &[u8], record: &mut [u8]) -> Result<(), Refusal> {
+/// Writes the record of an entry: a byte with a bit map, then door (2 bytes up to 65535, 4 above), time (8 bytes), set (1 byte) and
+/// ciphertext, low bytes first. A missing door or time takes no bytes, so that a record has 2 bytes, 2 or 4 more with a door, 8 more with a
+/// time, and the ciphertext. Set 0 is stored as the set that it means. Writing and [`read_record`] undo each other.
+pub fn write_record(door: Option<u32>, time: Option<u64>, set: u32, ciphertext: &[u8], record: &mut [u8]) -> Result<(), Refusal> {
     // SAFETY: as for the calls above.
     result(unsafe {
         saber_write_record(
@@ -222,8 +225,8 @@ pub fn write_record(door: Option<u16>, time: Option<u64>, set: u32, ciphertext: 
 }
 
 /// Reads a record and copies its ciphertext out. The ciphertext has the record's length less 2, less 2 more if `record[0]` has bit 0, less
-/// 8 more if it has bit 1; where there is no such length the read is refused. Asked are, in this order: the map, whether there is a set
-/// byte, that byte, the record's length and the ciphertext's.
+/// 4 more if it has bit 4, less 8 more if it has bit 1; where there is no such length the read is refused. Asked are, in this order: the
+/// map, whether there is a set byte, that byte, the record's length, whether a wide door is above 65535, and the ciphertext's length.
 pub fn read_record(record: &[u8], ciphertext: &mut [u8]) -> Result<Entry, Refusal> {
     let (mut has_door, mut door, mut has_time, mut time, mut set) = (0, 0, 0, 0, 0);
     // SAFETY: as for the calls above; each number lent is a variable of its own.

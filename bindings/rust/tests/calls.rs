@@ -119,8 +119,9 @@ fn products_by_monomials() {
 
 // An entry's record by hand, without its ciphertext.
 fn record_start(entry: Entry) -> Vec<u8> {
-    let mut start = vec![12 + u8::from(entry.door.is_some()) + 2 * u8::from(entry.time.is_some())];
-    start.extend(entry.door.iter().flat_map(|door| door.to_le_bytes()));
+    let (door_bit, door_size) = entry.door.map_or((0, 0), |door| if door < 65536 { (1, 2) } else { (16, 4) });
+    let mut start = vec![12 + door_bit + 2 * u8::from(entry.time.is_some())];
+    start.extend(&entry.door.unwrap_or(0).to_le_bytes()[..door_size]);
     start.extend(entry.time.iter().flat_map(|time| time.to_le_bytes()));
     start.push(entry.set as u8);
     start
@@ -130,7 +131,7 @@ fn record_start(entry: Entry) -> Vec<u8> {
 fn records_are_written_and_read() {
     for (number, set) in [(0, SABER), (1, LIGHTSABER), (2, SABER), (3, FIRESABER)] {
         let ciphertext: Vec<u8> = (0..set.ciphertext).map(|i| (i * 7 + 1) as u8).collect();
-        for door in [None, Some(0), Some(0x1234), Some(u16::MAX)] {
+        for door in [None, Some(0), Some(0x1234), Some(65535), Some(65536), Some(0x1234_5678), Some(u32::MAX)] {
             for time in [None, Some(0), Some(0x0102_0304_0506_0708), Some(u64::MAX)] {
                 let entry = Entry { door, time, set: set.number };
                 let expected = [record_start(entry), ciphertext.clone()].concat();
@@ -163,6 +164,8 @@ fn refused_records_leave_outputs_alone() {
     assert_eq!(read(&[&record[..3], &[0], &record[4..]].concat()), Err(Refusal::UnknownSet));
     assert_eq!(read(&record[..739]), Err(Refusal::RecordLength));
     assert_eq!(read(&[&record[..], &[0]].concat()), Err(Refusal::RecordLength));
+    assert_eq!(read(&[&[0x1c, 0xff, 0xff, 0, 0], &record[3..]].concat()), Err(Refusal::RecordDoor));
+    assert_eq!(read(&[&[0x1c, 0xff, 0xff, 0, 0], &record[3..739]].concat()), Err(Refusal::RecordLength));
     assert_eq!(saber::read_record(&record, &mut ciphertext[1..]), Err(Refusal::OutputLength));
     assert_eq!(ciphertext, [0xa5; 736]);
 }

@@ -16,9 +16,7 @@ use records::Time;
 // bytes of word k end where those of word k + 1 start; those of a word that a call does not take are none.
 pub type Ends = [usize; 9];
 
-// The largest door, the largest time, and the largest of the other numbers.
-const LAST_DOOR: usize = 65535;
-
+// The largest time, and the largest of the other numbers, doors among them.
 const LAST_TIME: usize = usize::MAX;
 
 const LAST_NUMBER: usize = 4294967295;
@@ -62,10 +60,14 @@ fn digits_of(k: usize) -> usize
     2
 }
 
-// A door, a time and another number that were read up to their bounds.
+// A number, a door and a time that were read up to their bounds.
+fn narrow(x: usize) -> u32 {
+    (x % (LAST_NUMBER + 1)) as u32
+}
+
 fn door_of(read: Optional) -> Door {
     match read {
-        Optional::Number(x) => Door::Number((x % (LAST_DOOR + 1)) as u16),
+        Optional::Number(x) => Door::Number(narrow(x)),
         Optional::Missing => Door::Missing,
     }
 }
@@ -75,10 +77,6 @@ fn time_of(read: Optional) -> Time {
         Optional::Number(x) => Time::Number(x as u64),
         Optional::Missing => Time::Missing,
     }
-}
-
-fn narrow(x: usize) -> u32 {
-    (x % (LAST_NUMBER + 1)) as u32
 }
 
 // Reads the arguments that a call takes, from a place of the line on.
@@ -96,7 +94,7 @@ pub fn read(
         next: at,
         fault: notation::SOUND,
     };
-    let door = notation::read_optional(shape.optionals > 0, LAST_DOOR, line, start);
+    let door = notation::read_optional(shape.optionals > 0, LAST_NUMBER, line, start);
     let time = notation::read_optional(shape.optionals > 1, LAST_TIME, line, door.step);
     let number = notation::read_number(shape.numbers > 0, LAST_NUMBER, line, time.step);
     let mut ends = [0; 9];

@@ -1,4 +1,6 @@
 pub mod Fields
+pub mod Doors
 pub mod Records
+pub mod Before
 pub mod Steps
 pub mod Calls

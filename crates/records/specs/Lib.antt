@@ -1,4 +1,5 @@
 pub mod Records
+pub mod Before
 pub mod Promises
 pub mod Rooms
 pub mod Laws

@@ -1,8 +1,9 @@
--- Document 02, A1: the record of a sealed entry. Byte 0 is a bit map, and only the fields whose bit stands follow, in bit order, little-endian.
-use Prim.Native.Nat.{ℕ, zero, suc, _+_, _*_, _^_, _<_}
-use mathlib.Core.Bool.{Bool, true, false}
+-- Document 02, A1 and A7: the record of a sealed entry. Byte 0 is a bit map, and only the fields whose bit stands follow, in bit order,
+-- little-endian; a wide door, bit 4, stands where the short one would.
+use Prim.Native.Nat.{ℕ, zero, suc, _+_, _*_, _/_, _^_, _<_}
+use mathlib.Core.Bool.{Bool, true, false, _&&_}
 use mathlib.Core.List.{List, [], _∷_, _++_}
-use mathlib.Core.Option.{Option, none, some}
+use mathlib.Core.Option.{Option, none, some, Option·getD, orElse}
 use mathlib.Core.Path.{_≡_}
 use lib.Dec.{eqb, ltb, leb}
 use lib.ListN.{length, getD, take, drop}
@@ -23,9 +24,9 @@ use Rattle.records.specs.declared.Read.the-variants.{Entry, Refused}
 abbrev pub Field : Type 0
 Field = ℕ × ℕ
 
--- these fields in the order in which they follow the map: door, time and set. The ciphertext, bit 3, comes after them
+-- these fields in the order in which they follow the map: short door, wide door, time and set. The ciphertext, bit 3, comes after them
 unfoldable pub fields : List Field
-fields = (0, 2) ∷ (1, 8) ∷ (2, 1) ∷ []
+fields = (0, 2) ∷ (4, 4) ∷ (1, 8) ∷ (2, 1) ∷ []
 
 -- whether a bit of a map stands
 abbrev pub stands : ℕ → ℕ → Bool
@@ -43,9 +44,14 @@ takenBy m (f ∷ fs) = taken m f + takenBy m fs
 abbrev pub headLength : ℕ → ℕ
 headLength m = 1 + takenBy m fields
 
+-- a number that is there or is not
+abbrev pub given : Bool → ℕ → Option ℕ
+given true x = some x
+given false x = none
+
 -- Writing
 
--- the numbers of an entry in the order of the fields; a door or a time may be missing, a set may not
+-- the numbers of an entry; a door or a time may be missing, a set may not
 abbrev pub doorNumber : Door → Option ℕ
 doorNumber door.Missing = none
 doorNumber (door.Number x) = some x
@@ -54,8 +60,22 @@ abbrev pub timeNumber : Time → Option ℕ
 timeNumber time.Missing = none
 timeNumber (time.Number x) = some x
 
+-- A7: "A door up to 65535 is still written short". Doors from here on are wide
+abbrev pub wideFrom : ℕ
+wideFrom = 65536
+
+-- a door's number in the short field, and in the wide one
+abbrev pub shortDoor : Option ℕ → Option ℕ
+shortDoor none = none
+shortDoor (some x) = given (ltb x wideFrom) x
+
+abbrev pub wideDoor : Option ℕ → Option ℕ
+wideDoor none = none
+wideDoor (some x) = given (leb wideFrom x) x
+
+-- all numbers, in the order of the fields
 abbrev pub numbersOf : Head → List (Option ℕ)
-numbersOf h = doorNumber (h .door) ∷ timeNumber (h .time) ∷ some (h .set) ∷ []
+numbersOf h = shortDoor (doorNumber (h .door)) ∷ wideDoor (doorNumber (h .door)) ∷ timeNumber (h .time) ∷ some (h .set) ∷ []
 
 -- the bit of a number that is there, and its bytes, lowest first; a missing one has neither
 abbrev pub bitOf : Field → Option ℕ → ℕ
@@ -101,10 +121,6 @@ abbrev pub mapIn : List ℕ → ℕ
 mapIn s = getD s 0 0
 
 -- the numbers that stand one behind the other in a string, each where its bit stands
-abbrev pub given : Bool → ℕ → Option ℕ
-given true x = some x
-given false x = none
-
 unfoldable pub numbersIn : ℕ → List Field → List ℕ → List (Option ℕ)
 numbersIn m [] s = []
 numbersIn m (f ∷ fs) s = given (stands m (f .0)) (number 256 (take (f .1) s)) ∷ numbersIn m fs (drop (taken m f) s)
@@ -118,12 +134,13 @@ abbrev pub timeOf : Option ℕ → Time
 timeOf none = time.Missing
 timeOf (some x) = time.Number x
 
-abbrev pub setOf : Option ℕ → ℕ
-setOf none = 0
-setOf (some x) = x
-
 abbrev pub headOf : List (Option ℕ) → Head
-headOf xs = record { door = doorOf (getD xs 0 none); time = timeOf (getD xs 1 none); set = setOf (getD xs 2 none) }
+headOf xs =
+    record {
+      door = doorOf (orElse (getD xs 0 none) (getD xs 1 none));
+      time = timeOf (getD xs 2 none);
+      set = Option·getD (getD xs 3 none) 0;
+    }
 
 -- the head of the entry in a record, and its ciphertext
 unfoldable pub headIn : List ℕ → Head
@@ -132,20 +149,29 @@ headIn s = headOf (numbersIn (mapIn s) fields (drop 1 s))
 abbrev pub ciphertextIn : List ℕ → List ℕ
 ciphertextIn s = drop (headLength (mapIn s)) s
 
--- the questions of a reader, by the record's map and set byte, its length and the output's. 10: it is not empty, and of its map bits 4 to 7
--- are clear and bits 2 and 3 stand. 11: it is not too short for the set byte. 1: that is a set's own number, so not 0. 11: the total is
--- what map and set require. 9: the output has the ciphertext's length
-abbrev pub readQuestions : ℕ → ℕ → ℕ → ℕ → List Question
-readQuestions m set size ct =
-    (ltb 0 size, 10) ∷ (ltb m 16, 10) ∷ (stands m 2, 10) ∷ (stands m 3, 10)
+-- whether a byte is a map: its bits 5 to 7 are clear, bits 0 and 4 do not both stand, and bits 2 and 3 do
+abbrev pub isMap : ℕ → Bool
+isMap m = ltb m 32 && leb (digit 2 m 0 + digit 2 m 4) 1 && stands m 2 && stands m 3
+
+-- the questions of a reader, by the record's map, its door (0 where it is missing), its set byte, its length and the output's. 10: it is not
+-- empty, and its map is one. 11: it is not too short for the set byte. 1: that is a set's own number, so not 0. 11: the total is what map and
+-- set require. 12: a wide field holds a wide door. 9: the output has the ciphertext's length
+abbrev pub readQuestions : ℕ → ℕ → ℕ → ℕ → ℕ → List Question
+readQuestions m door set size ct =
+    (ltb 0 size, 10) ∷ (isMap m, 10)
     ∷ (leb (headLength m) size, 11)
     ∷ (ltb 0 set, 1) ∷ (known set, 1)
     ∷ (eqb size (headLength m + paramsOf set .ct), 11)
+    ∷ (leb (digit 2 m 4) (door / wideFrom), 12)
     ∷ (eqb ct (paramsOf set .ct), 9) ∷ []
+
+-- the number of a door, 0 where it is missing
+abbrev pub doorOrZero : Door → ℕ
+doorOrZero d = Option·getD (doorNumber d) 0
 
 -- the answer to a read of the record s, where an output of so many bytes is lent
 abbrev pub readAnswer : List ℕ → ℕ → ℕ
-readAnswer s ct = earliest (readQuestions (mapIn s) (headIn s .set) (length s) ct)
+readAnswer s ct = earliest (readQuestions (mapIn s) (doorOrZero (headIn s .door)) (headIn s .set) (length s) ct)
 
 -- what reading gives, by its answer: the head of the entry where that is 0, and else the refusal alone
 abbrev pub readOf : ℕ → Head → Read

@@ -1,12 +1,13 @@
 // The record of a sealed entry, written and read.
-ghost use mathlib.Core.List.{_++_};
+ghost use mathlib.Core.List.{[], _∷_, _++_};
+ghost use mathlib.Core.Option.{Option·getD, orElse};
 ghost use mathlib.Core.Path.{_≡_};
 ghost use Prim.Native.Nat.{_+_, _^_, _<_, _≤_};
 ghost use lib.ListN.{length, getD, take, drop};
 ghost use Rattle.lists.specs.Numbers.{number, digits, digit};
 ghost use Rattle.questions.specs.Answers.{earliest};
-ghost use Rattle.records.specs.Records.{headLength, doorNumber, timeNumber, writeQuestions, stands, given, doorOf, timeOf, setOf};
-ghost use Rattle.records.specs.Records.{headIn, readQuestions};
+ghost use Rattle.records.specs.Records.{headLength, given, doorNumber, timeNumber, shortDoor, wideDoor, writeQuestions, stands};
+ghost use Rattle.records.specs.Records.{doorOf, timeOf, headIn, isMap, readQuestions, doorOrZero};
 ghost use Rattle.records.specs.Promises.{Recorded, Retrieved};
 ghost use Rattle.records.specs.Rooms.{Lays, WriteRoom};
 use questions::ask;
@@ -15,7 +16,7 @@ use sets::set_params;
 // A door number, or none.
 pub enum Door {
     Missing,
-    Number(u16),
+    Number(u32),
 }
 
 // A time, or none.
@@ -56,12 +57,12 @@ fn bit(map: u8, k: u32) -> usize
 fn head_length(map: u8) -> usize
     ensures { λ r. ⌜ r ≡ headLength map ⌝ }
 {
-    1 + bit(map, 0) * 2 + bit(map, 1) * 8 + bit(map, 2)
+    1 + bit(map, 0) * 2 + bit(map, 4) * 4 + bit(map, 1) * 8 + bit(map, 2)
 }
 
-// How a door is written, and a time.
+// How a door is written, short up to 65535 and wide above, by its upper half and with no test of the number; and a time.
 fn door_part(door: Door) -> Part
-    ensures { λ r. ⌜ Lays (0, 2) (doorNumber door) r ⌝ }
+    ensures { λ r. ⌜ Lays ((0, 2) ∷ (4, 4) ∷ []) (shortDoor (doorNumber door) ∷ wideDoor (doorNumber door) ∷ []) r ⌝ }
 {
     match door {
         Door::Missing => Part {
@@ -69,16 +70,19 @@ fn door_part(door: Door) -> Part
             size: 0,
             number: 0,
         },
-        Door::Number(x) => Part {
-            bit: 1,
-            size: 2,
-            number: x as u64,
-        },
+        Door::Number(x) => {
+            let wide = (x / 65536 + 65535) / 65536;
+            Part {
+                bit: (1 + 15 * wide) as u8,
+                size: (2 + 2 * wide) as usize,
+                number: x as u64,
+            }
+        }
     }
 }
 
 fn time_part(time: Time) -> Part
-    ensures { λ r. ⌜ Lays (1, 8) (timeNumber time) r ⌝ }
+    ensures { λ r. ⌜ Lays ((1, 8) ∷ []) (timeNumber time ∷ []) r ⌝ }
 {
     match time {
         Time::Missing => Part {
@@ -163,12 +167,16 @@ fn number_at(record: &[u8], at: usize, n: usize) -> u64
     lists::load(&record[at..])
 }
 
-// The door in a record, where its bit stands; the time and the set from their places on.
+// The door in a record, short or wide, where its bit stands; the time and the set from their places on.
 fn door_in(record: &[u8], map: u8) -> Door
-    ensures { λ r. ⌜ r ≡ doorOf (given (stands map 0) (number 256 (take 2 (drop 1 (now («record» .entry)))))) ⌝ }
+    ensures { λ r. ⌜ r ≡ doorOf (orElse (given (stands map 0) (number 256 (take 2 (drop 1 (now («record» .entry))))))
+        (given (stands map 4) (number 256 (take 4 (drop 1 (now («record» .entry))))))) ⌝ }
 {
     if bit(map, 0) == 1 {
-        return Door::Number((number_at(record, 1, 2) % 65536) as u16);
+        return Door::Number((number_at(record, 1, 2) % 65536) as u32);
+    }
+    if bit(map, 4) == 1 {
+        return Door::Number((number_at(record, 1, 4) % 4294967296) as u32);
     }
     Door::Missing
 }
@@ -185,7 +193,7 @@ fn time_in(record: &[u8], map: u8, at: usize) -> Time
 
 fn set_in(record: &[u8], map: u8, at: usize) -> u32
     requires { ⌜ at ≤ 16 ⌝ }
-    ensures { λ r. ⌜ r ≡ setOf (given (stands map 2) (number 256 (take 1 (drop at (now («record» .entry)))))) ⌝ }
+    ensures { λ r. ⌜ r ≡ Option·getD (given (stands map 2) (number 256 (take 1 (drop at (now («record» .entry)))))) 0 ⌝ }
 {
     if bit(map, 2) == 1 {
         return (number_at(record, at, 1) % 256) as u32;
@@ -198,7 +206,7 @@ fn head_in(record: &[u8]) -> Head
     ensures { λ r. ⌜ r ≡ headIn (now («record» .entry)) ⌝ }
 {
     let map = map_in(record);
-    let t = 1 + bit(map, 0) * 2;
+    let t = 1 + bit(map, 0) * 2 + bit(map, 4) * 4;
     let s = t + bit(map, 1) * 8;
     let door = door_in(record, map);
     let time = time_in(record, map, t);
@@ -206,30 +214,50 @@ fn head_in(record: &[u8]) -> Head
     Head { door, time, set }
 }
 
-// What reading answers: 10, 11, 1, 11, 9.
-fn read_answer(map: u8, set: u32, record: usize, ciphertext: usize) -> u8
-    ensures { λ r. ⌜ r ≡ earliest (readQuestions map set «record» ciphertext) ⌝ }
+// The number of a door, 0 where it is missing.
+fn door_number(door: Door) -> usize
+    ensures { λ r. ⌜ r ≡ doorOrZero door ⌝ }
+{
+    match door {
+        Door::Missing => 0,
+        Door::Number(x) => x as usize,
+    }
+}
+
+// Whether a byte is a map.
+fn is_map(map: u8) -> bool
+    ensures { λ r. ⌜ r ≡ isMap map ⌝ }
+{
+    let doors = bit(map, 0) + bit(map, 4);
+    (map < 32) & (doors <= 1) & (bit(map, 2) == 1) & (bit(map, 3) == 1)
+}
+
+// What reading answers: 10, 11, 1, 11, 12, 9.
+fn read_answer(map: u8, door: Door, set: u32, record: usize, ciphertext: usize) -> u8
+    ensures { λ r. ⌜ r ≡ earliest (readQuestions map (doorOrZero door) set «record» ciphertext) ⌝ }
 {
     let p = set_params(set);
     let head = head_length(map);
     let size = head + p.ct;
-    let total = ask(record == size, 11, ask(ciphertext == p.ct, 9, 0));
+    let output = ask(ciphertext == p.ct, 9, 0);
+    let wide = ask(bit(map, 4) <= door_number(door) / 65536, 12, output);
+    let total = ask(record == size, 11, wide);
     let known = ask(0 < set, 1, ask(0 < p.l, 1, total));
-    let reach = ask(bit(map, 3) == 1, 10, ask(head <= record, 11, known));
     ask(
         0 < record,
         10,
-        ask(map < 16, 10, ask(bit(map, 2) == 1, 10, reach)),
+        ask(is_map(map), 10, ask(head <= record, 11, known)),
     )
 }
 
-// Reads a record: 10, 11, 1, 11, 9. The ciphertext is copied out.
+// Reads a record: 10, 11, 1, 11, 12, 9. The ciphertext is copied out.
 pub fn read_record(record: &[u8], ciphertext: &mut [u8]) -> Read
     ensures { λ r. ⌜ Retrieved (now («record» .entry)) (now (ciphertext .entry)) r (now (ciphertext .exit)) ⌝ }
 {
     let map = map_in(record);
     let head = head_in(record);
-    let r = read_answer(map, head.set, record.len(), ciphertext.len());
+    let door = head.door;
+    let r = read_answer(map, door, head.set, record.len(), ciphertext.len());
     if r != 0 {
         return Read::Refused(r);
     }

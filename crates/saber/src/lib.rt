@@ -224,7 +224,7 @@ pub extern "C" fn saber_public_key_length(set: u32, secret_key: usize) -> usize
 }
 
 // The door that a flag and a number mean.
-fn door_of(has_door: u8, door: u16) -> Door
+fn door_of(has_door: u8, door: u32) -> Door
     ensures { λ r. ⌜ r ≡ doorOf (flagged «has_door» door) ⌝ }
 {
     if has_door == 0 {
@@ -243,7 +243,7 @@ fn time_of(has_time: u8, time: u64) -> Time
 }
 
 // Hands out a door: the flag, and the number where there is one.
-fn give_door(given: Door, has_door: &mut u8, door: &mut u16)
+fn give_door(given: Door, has_door: &mut u8, door: &mut u32)
     ensures { λ _. ⌜ (now («has_door» .exit) ≡ flagOf (doorNumber given)) × (now (door .exit) ≡ orOld (doorNumber given) (now (door .entry))) ⌝ }
 {
     match given {
@@ -275,7 +275,7 @@ fn give_time(given: Time, has_time: &mut u8, time: &mut u64)
 #[no_mangle]
 pub extern "C" fn saber_write_record(
     has_door: u8,
-    door: u16,
+    door: u32,
     has_time: u8,
     time: u64,
     set: u32,
@@ -294,12 +294,12 @@ pub extern "C" fn saber_write_record(
     )
 }
 
-// Reads a record: 10, 11, 1, 11, 9. The entry's numbers go where the caller lends a place for each; a missing one leaves its place alone.
+// Reads a record: 10, 11, 1, 11, 12, 9. The entry's numbers go where the caller lends a place for each; a missing one leaves its place alone.
 #[no_mangle]
 pub extern "C" fn saber_read_record(
     record: &[u8],
     has_door: &mut u8,
-    door: &mut u16,
+    door: &mut u32,
     has_time: &mut u8,
     time: &mut u64,
     set: &mut u32,

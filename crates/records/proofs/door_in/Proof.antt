@@ -1,9 +1,9 @@
--- `records::door_in` meets its contract: the bit says whether the number is there, and two bytes are below 65536.
+-- `records::door_in` meets its contract: the bits say which number is there, and its bytes are few enough.
 use mathlib.Core.Path.{ap, _∙_}
 use native.Mathlib.Nat.{mod-eq-of-lt}
 use borrow.Author.Needs.{needs}
 use Rattle.records.specs.Records.{doorOf}
-use Rattle.records.specs.Laws.Steps.{there, missing}
+use Rattle.records.specs.Laws.Steps.{there, missing, first, second}
 use Rattle.records.proofs.door_in.Statement.{statement}
 use Rattle.records.proofs.door_in.Tie as tie
 
@@ -16,5 +16,17 @@ door-in-spec =
     (λ c. search needs)
     (λ c.
     let n = c .number-at .ensures in
-    ap doorOf (there _ 0 (c .before .before .bit .ensures) (c .before .if1 .taken) (mod-eq-of-lt (n .1) ∙ n .0)))
-    (λ c. ap doorOf (missing _ 0 _ (c .before .bit .ensures) (c .if1 .left))))
+    ap doorOf (first _ _ (there _ 0 (c .before .before .bit .ensures) (c .before .if1 .taken) (mod-eq-of-lt (n .1) ∙ n .0))))
+    (λ c κs. search needs)
+    (λ c κs. search needs)
+    (λ c. search needs)
+    (λ c.
+    let n = c .number-at2 .ensures in
+    let b = c .before .before .before in
+    ap doorOf
+    (second _ _ (missing _ 0 _ (b .before .bit .ensures) (b .if1 .left))
+    (there _ 4 (c .before .before .bit2 .ensures) (c .before .if2 .taken) (mod-eq-of-lt (n .1) ∙ n .0))))
+    (λ c.
+    let b = c .before .before in
+    ap doorOf
+    (second _ _ (missing _ 0 _ (b .before .bit .ensures) (b .if1 .left)) (missing _ 4 _ (c .before .bit2 .ensures) (c .if2 .left)))))

@@ -1,9 +1,9 @@
--- `records::door_part` meets its contract: a field has its bytes, or none.
+-- `records::door_part` meets its contract: a door has the bytes of its field, or none.
 use mathlib.Core.Path.{ap}
 use native.Mathlib.Omega.{arith}
 use borrow.Author.Needs.{needs}
 use Rattle.records.specs.Records.{doorNumber}
-use Rattle.records.specs.Laws.Steps.{lays-number, lays-missing}
+use Rattle.records.specs.Laws.Steps.{lays-no-door, lays-door}
 use Rattle.records.proofs.door_part.Statement.{statement}
 use Rattle.records.proofs.door_part.Tie as tie
 
@@ -14,5 +14,12 @@ door-part-spec =
     (λ c. search needs)
     (λ c. search needs)
     (λ c. search needs)
-    (λ c. lays-missing (0, 2) (ap doorNumber (c .enum-told .given .1)))
-    (λ c. lays-number (0, 2) (ap doorNumber (c .before .door .given .1)) (omega arith)))
+    (λ c. search needs)
+    (λ c. search needs)
+    (λ c. search needs)
+    (λ c. search needs)
+    (λ c. search needs)
+    (λ c. search needs)
+    (λ c. search needs)
+    (λ c. lays-no-door (ap doorNumber (c .enum-told .given .1)))
+    (λ c. lays-door (ap doorNumber (c .before .door .given .1)) (omega arith)))

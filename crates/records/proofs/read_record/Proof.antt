@@ -2,6 +2,7 @@
 use native.Mathlib.Omega.{arith}
 use borrow.Author.Needs.{needs}
 use lib.ListN.{length}
+use Rattle.records.specs.Records.{doorOrZero}
 use Rattle.records.specs.Rooms.{Readable}
 use Rattle.records.specs.Laws.Calls.{read-refused, read-room, read-fits, read-done}
 use Rattle.records.proofs.read_record.Statement.{statement}
@@ -12,7 +13,8 @@ room :
     (c : tie.Else1) →
     let head = c .before .before in
     let start = head .before .before .before .before in
-    Readable (head .before .map-in .result) (head .head-in .result .set) (length (start .args .«record» .now)) (length (start .args .ciphertext .now))
+    let h = head .head-in .result in
+    Readable (head .before .map-in .result) (doorOrZero (h .door)) (h .set) (length (start .args .«record» .now)) (length (start .args .ciphertext .now))
 room c =
     let head = c .before .before in
     let a = head .before .before .before .before .args in

@@ -1,8 +1,9 @@
 -- `records::set_in` meets its contract: the bit says whether the number is there, and a byte is below 256.
+use Prim.Native.Nat.{ℕ}
+use mathlib.Core.Option.{Option, Option·getD}
 use mathlib.Core.Path.{ap, _∙_}
 use native.Mathlib.Nat.{mod-eq-of-lt}
 use borrow.Author.Needs.{needs}
-use Rattle.records.specs.Records.{setOf}
 use Rattle.records.specs.Laws.Steps.{there, missing}
 use Rattle.records.proofs.set_in.Statement.{statement}
 use Rattle.records.proofs.set_in.Tie as tie
@@ -16,5 +17,5 @@ set-in-spec =
     (λ c. search needs)
     (λ c.
     let n = c .number-at .ensures in
-    ap setOf (there _ 2 (c .before .before .bit .ensures) (c .before .if1 .taken) (mod-eq-of-lt (n .1) ∙ n .0)))
-    (λ c. ap setOf (missing _ 2 _ (c .before .bit .ensures) (c .if1 .left))))
+    ap (λ (o : Option ℕ). Option·getD o 0) (there _ 2 (c .before .before .bit .ensures) (c .before .if1 .taken) (mod-eq-of-lt (n .1) ∙ n .0)))
+    (λ c. ap (λ (o : Option ℕ). Option·getD o 0) (missing _ 2 _ (c .before .bit .ensures) (c .if1 .left))))

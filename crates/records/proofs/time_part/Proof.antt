@@ -1,9 +1,8 @@
 -- `records::time_part` meets its contract: a field has its bytes, or none.
 use mathlib.Core.Path.{ap}
-use native.Mathlib.Omega.{arith}
 use borrow.Author.Needs.{needs}
 use Rattle.records.specs.Records.{timeNumber}
-use Rattle.records.specs.Laws.Steps.{lays-number, lays-missing}
+use Rattle.records.specs.Laws.Steps.{lays-no-time, lays-time}
 use Rattle.records.proofs.time_part.Statement.{statement}
 use Rattle.records.proofs.time_part.Tie as tie
 
@@ -13,5 +12,5 @@ time-part-spec =
     (tie.spec
     (λ c. search needs)
     (λ c. search needs)
-    (λ c. lays-missing (1, 8) (ap timeNumber (c .enum-told .given .1)))
-    (λ c. lays-number (1, 8) (ap timeNumber (c .before .time .given .1)) (omega arith)))
+    (λ c. lays-no-time (ap timeNumber (c .enum-told .given .1)))
+    (λ c. lays-time (ap timeNumber (c .before .time .given .1))))

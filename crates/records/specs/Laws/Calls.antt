@@ -1,6 +1,6 @@
 -- Laws of the two calls: with its steps made each keeps its promise, and what one writes the other reads.
 use Prim.Native.Nat.{ℕ, zero, suc, _+_, _-_, _<_, _≤_}
-use mathlib.Core.List.{List, _++_, append-assoc}
+use mathlib.Core.List.{List, [], _∷_, _++_, append-assoc}
 use mathlib.Core.Option.{Option}
 use mathlib.Core.Path.{_≡_, refl, sym, ap, _∙_}
 use native.Mathlib.Nat.{mod-eq-of-lt}
@@ -22,8 +22,8 @@ use Rattle.records.specs.declared.Head.{Head}
 use Rattle.records.specs.declared.Read.{Read}
 use Rattle.records.specs.declared.Read.the-variants.{Entry, Refused}
 use Rattle.records.specs.declared.Part.{Part}
-use Rattle.records.specs.Records.{Field, fields, headLength, doorNumber, timeNumber, numbersOf, bytesOf, bitsOf, laid, mapOf}
-use Rattle.records.specs.Records.{headed, recordOf, writeQuestions, headIn, readQuestions, readAnswer, readOf, Fits}
+use Rattle.records.specs.Records.{Field, fields, headLength, doorNumber, timeNumber, shortDoor, wideDoor, numbersOf, bitsOf, laid}
+use Rattle.records.specs.Records.{mapOf, headed, recordOf, writeQuestions, headIn, readQuestions, doorOrZero, readAnswer, readOf, Fits}
 use Rattle.records.specs.Promises.{Recorded, Retrieved}
 use Rattle.records.specs.Rooms.{Lays, WriteRoom, Readable}
 use Rattle.records.specs.Laws.Fields.{length-laid}
@@ -36,15 +36,15 @@ refusal zero h n = absurd (n refl)
 refusal (suc a) h n = refl
 
 module _ (s old : List ℕ) {m r : ℕ} {h : Head} (im : m ≡ getD s 0 0) (ih : h ≡ headIn s)
-    (a : r ≡ earliest (readQuestions m (h .set) (length s) (length old))) where
+    (a : r ≡ earliest (readQuestions m (doorOrZero (h .door)) (h .set) (length s) (length old))) where
   answer-is : r ≡ readAnswer s (length old)
   answer-is = a ∙ rw (im, ih)
 
   pub read-refused : (r ≡ 0 → ⊥) → Retrieved s old (Refused r) old
   read-refused n = record { answers = ap Refused answer-is ∙ refusal _ (headIn s) (λ z. n (answer-is ∙ z)); writes = refused r _ old n }
 
-  pub read-room : r ≡ 0 → Readable m (h .set) (length s) (length old)
-  read-room z = readable m (h .set) (length s) (length old) a z
+  pub read-room : r ≡ 0 → Readable m (doorOrZero (h .door)) (h .set) (length s) (length old)
+  read-room z = readable m (doorOrZero (h .door)) (h .set) (length s) (length old) a z
 
   module _ {e : ℕ} (z : r ≡ 0) (ie : e ≡ headLength m) where
     -- the rest of the record is as long as the output
@@ -64,10 +64,11 @@ module _ (s old : List ℕ) {m r : ℕ} {h : Head} (im : m ≡ getD s 0 0) (ih :
 
 -- Writing
 
-part-long : {f : Field} {o : Option ℕ} {x : Part} → Lays f o x → length (bytesOf f o) ≡ x .size
-part-long {f} {o} {x} l = sym (ap length (l .bytes)) ∙ length-digits 256 (x .size) (x .number)
+part-long : {fs : List Field} {xs : List (Option ℕ)} {x : Part} → Lays fs xs x → length (laid fs xs) ≡ x .size
+part-long {fs} {xs} {x} l = sym (ap length (l .bytes)) ∙ length-digits 256 (x .size) (x .number)
 
-module _ (d : Door) (t : Time) (set : ℕ) {p q : Part} (ip : Lays (0, 2) (doorNumber d) p) (iq : Lays (1, 8) (timeNumber t) q) where
+module _ (d : Door) (t : Time) (set : ℕ) {p q : Part}
+    (ip : Lays ((0, 2) ∷ (4, 4) ∷ []) (shortDoor (doorNumber d) ∷ wideDoor (doorNumber d) ∷ []) p) (iq : Lays ((1, 8) ∷ []) (timeNumber t ∷ []) q) where
   abbrev h : Head
   h = headed d t set
 
@@ -81,8 +82,10 @@ module _ (d : Door) (t : Time) (set : ℕ) {p q : Part} (ip : Lays (0, 2) (doorN
   size-is : headLength (mapOf h) ≡ 1 + p .size + q .size + 1
   unfolding fields laid
   size-is =
-      let w = length-laid (mapOf h) fields (numbersOf h) (mapped d t (paramsOf set .number) .agree) in
-      omega (arith, simp (length-append, part-long ip, part-long iq, length-digits) at w)
+      let w = length-laid (mapOf h) fields (numbersOf h) (mapped (timeNumber t) (paramsOf set .number) (doorNumber d) .agree) in
+      let x = part-long ip in
+      let y = part-long iq in
+      omega (arith, simp (length-append, length-digits) at w, simp length-append at x, simp length-append at y)
 
   module _ (c old : List ℕ) {r : ℕ} (a : r ≡ earliest (writeQuestions m set (length c) (length old))) where
     answered : r ≡ earliest (writeQuestions (mapOf h) set (length c) (length old))
@@ -121,7 +124,7 @@ refusal-given (suc a) n g e = let is : n ≡ suc a = cc in (is, λ z. omega arit
 
 -- what was written is read back: the same door and time, the set that its number means and the same ciphertext
 pub read-back :
-    (d : Door) (t : Time) (set : ℕ) (c old ct : List ℕ) {new ct' : List ℕ} {r : Read} → Fits 2 (doorNumber d) → Fits 8 (timeNumber t) →
+    (d : Door) (t : Time) (set : ℕ) (c old ct : List ℕ) {new ct' : List ℕ} {r : Read} → Fits 4 (doorNumber d) → Fits 8 (timeNumber t) →
     length ct ≡ length c → Recorded d t set c old 0 new → Retrieved new ct r ct' → (r ≡ Entry (headed d t set)) × (ct' ≡ c)
 read-back d t set c old ct {new} {ct'} {r} fd ft l w g =
     let h = headed d t set in

@@ -78,9 +78,9 @@ laid-numbers m (f ∷ fs) s h b =
     (laid-numbers m fs (drop (taken m f) s) (simp length-drop (omega arith)) (below-drop 256 (taken m f) s b))
     ∙ sym (take-add (taken m f) (takenBy m fs) s)
 
--- no map puts more than the door, the time and the set before a ciphertext
-pub head-few : (m : ℕ) → headLength m ≤ 12
+-- no map puts more than two doors, a time and a set before a ciphertext
+pub head-few : (m : ℕ) → headLength m ≤ 16
 unfolding takenBy fields
 head-few m =
     let bit : (k : ℕ) → digit 2 m k < 2 = λ k. mod-lt (m / 2 ^ k) (omega arith) in
-    omega (arith, bit 0, bit 1, bit 2)
+    omega (arith, bit 0, bit 4, bit 1, bit 2)

@@ -1,10 +1,12 @@
 -- The steps of the calls: what the code reads of a record and writes into it, one number after another, is the definition.
-use Prim.Native.Nat.{ℕ, _+_, _-_, _*_, _^_, _<_, _≤_}
-use mathlib.Core.List.{List, _++_, append-assoc}
-use mathlib.Core.Option.{Option, none, some}
+use Prim.Native.Nat.{ℕ, zero, suc, _+_, _-_, _*_, _/_, _^_, _<_, _≤_}
+use mathlib.Core.List.{List, [], _∷_, _++_, append-assoc}
+use mathlib.Core.Option.{Option, none, some, Option·getD, orElse}
 use mathlib.Core.Path.{_≡_, refl, sym, ap, _∙_}
-use native.Mathlib.Nat.{pow-le-pow-right, one-le-pow, lt-of-lt-of-le, min-le-left}
+use native.Mathlib.Nat.{pow-le-pow-right, one-le-pow, lt-of-lt-of-le, min-le-left, mod-lt}
+use native.Mathlib.Decide.{decLt}
 use native.Mathlib.Omega.{arith}
+use lib.Dec.{eqb}
 use lib.ListN.{length, getD, take, drop, length-take, length-drop, drop-of-length-le}
 use lib.Seq.{drop-drop, take-all, take-nil}
 use borrow.Author.Tests.{eq-eqb, ne-eqb}
@@ -14,8 +16,10 @@ use Rattle.lists.specs.Laws.Numbers.{length-digits}
 use Rattle.lists.specs.Laws.Parts.{last-part, prefix-none, prefix-copy, prefix-all}
 use Rattle.records.specs.declared.Door.{Door}
 use Rattle.records.specs.declared.Time.{Time}
-use Rattle.records.specs.Records.{Field, fields, stands, given, numbersIn, doorOf, timeOf, setOf, headIn}
+use Rattle.records.specs.declared.Part.{Part}
+use Rattle.records.specs.Records.{fields, stands, given, wideFrom, shortDoor, wideDoor, bitsOf, laid, numbersIn, doorOf, timeOf, headIn}
 use Rattle.records.specs.Rooms.{Lays, WriteRoom}
+use Rattle.records.specs.Laws.Doors.{is-short, is-wide}
 
 -- a number whose bit b stands, and one whose bit does not
 pub there : (m k : ℕ) {b v x : ℕ} → b ≡ digit 2 m k → b ≡ 1 → v ≡ x → some v ≡ given (stands m k) x
@@ -23,6 +27,15 @@ there m k e t q = rw (eq-eqb (digit 2 m k) 1 (sym e ∙ t), q)
 
 pub missing : (m k x : ℕ) {b : ℕ} → b ≡ digit 2 m k → (b ≡ 1 → ⊥) → none ≡ given (stands m k) x
 missing m k x e t = rw (ne-eqb (digit 2 m k) 1 (λ q. t (e ∙ q)))
+
+-- the first of two numbers is there, or the second counts
+pub first : (a b : Option ℕ) {x : ℕ} → some x ≡ a → some x ≡ orElse a b
+unfolding orElse
+first a b e = rw (← e)
+
+pub second : (a b : Option ℕ) {o : Option ℕ} → none ≡ a → o ≡ b → o ≡ orElse a b
+unfolding orElse
+second a b e f = rw (← e) f
 
 -- a number of n bytes at a place, as far as there are any
 module _ (s : List ℕ) (at n : ℕ) where
@@ -41,32 +54,76 @@ module _ (s : List ℕ) (at n : ℕ) where
   unfolding number
   past h = (rw (drop-of-length-le s h, take-nil), one-le-pow n 256 (omega arith))
 
+-- where no short door stands, the wide one has its place
+wide-place :
+    (b x : ℕ) (f : List ℕ → Option ℕ) (s : List ℕ) → b < 2 →
+    orElse (given (eqb b 1) x) (f s) ≡ orElse (given (eqb b 1) x) (f (drop (b * 2) s))
+unfolding orElse
+wide-place zero x f s h = refl
+wide-place (suc zero) x f s h = refl
+wide-place (suc (suc b)) x f s h = absurd (omega arith)
+
 -- the numbers one after another are those of the definition
 pub head-steps :
-    (s : List ℕ) {m b b′ n : ℕ} {d : Door} {t : Time} → m ≡ getD s 0 0 → b ≡ digit 2 m 0 → b′ ≡ digit 2 m 1 →
-    d ≡ doorOf (given (stands m 0) (number 256 (take 2 (drop 1 s)))) →
-    t ≡ timeOf (given (stands m 1) (number 256 (take 8 (drop (1 + b * 2) s)))) →
-    n ≡ setOf (given (stands m 2) (number 256 (take 1 (drop (1 + b * 2 + b′ * 8) s)))) → record { door = d; time = t; set = n } ≡ headIn s
+    (s : List ℕ) {m b c b′ n : ℕ} {d : Door} {t : Time} → m ≡ getD s 0 0 → b ≡ digit 2 m 0 → c ≡ digit 2 m 4 → b′ ≡ digit 2 m 1 →
+    d ≡ doorOf (orElse (given (stands m 0) (number 256 (take 2 (drop 1 s)))) (given (stands m 4) (number 256 (take 4 (drop 1 s))))) →
+    t ≡ timeOf (given (stands m 1) (number 256 (take 8 (drop (1 + b * 2 + c * 4) s)))) →
+    n ≡ Option·getD (given (stands m 2) (number 256 (take 1 (drop (1 + b * 2 + c * 4 + b′ * 8) s)))) 0 →
+    record { door = d; time = t; set = n } ≡ headIn s
 unfolding headIn numbersIn fields
-head-steps s em eb eb′ ed et en =
+head-steps s em eb ec eb′ ed et en =
+    let m = getD s 0 0 in
     rw (
       ed,
       et,
       en,
       eb,
+      ec,
       eb′,
       em,
-      drop-drop (digit 2 (getD s 0 0) 0 * 2) 1 s,
-      drop-drop (digit 2 (getD s 0 0) 1 * 8) (1 + digit 2 (getD s 0 0) 0 * 2) s,
+      wide-place (digit 2 m 0) _ (λ u. given (stands m 4) (number 256 (take 4 u))) (drop 1 s) (mod-lt _ (omega arith)),
+      drop-drop (digit 2 m 0 * 2) 1 s,
+      drop-drop (digit 2 m 4 * 4) (1 + digit 2 m 0 * 2) s,
+      drop-drop (digit 2 m 1 * 8) (1 + digit 2 m 0 * 2 + digit 2 m 4 * 4) s,
     )
 
--- how a number is written, and a missing one
-pub lays-number : (f : Field) {o : Option ℕ} {x : ℕ} → o ≡ some x → f .1 ≤ 8 → Lays f o (record { bit = 2 ^ f .0; size = f .1; number = x })
-lays-number f e h = rw e (record { bit = refl; bitFew = omega arith; bytes = refl; few = h })
+-- how a door is written, and a missing one; w is 0 for a short one and 1 for a wide one
+abbrev Doors : Option ℕ → Option ℕ → Part → Type 0
+Doors a b = Lays ((0, 2) ∷ (4, 4) ∷ []) (a ∷ b ∷ [])
 
-pub lays-missing : (f : Field) {o : Option ℕ} → o ≡ none → Lays f o (record { bit = 0; size = 0; number = 0 })
-unfolding digits
-lays-missing f e = rw e (record { bit = refl; bitFew = omega arith; bytes = refl; few = omega arith })
+module _ {o : Option ℕ} where
+  pub lays-no-door : o ≡ none → Doors (shortDoor o) (wideDoor o) (record { bit = 0; size = 0; number = 0 })
+  unfolding digits bitsOf laid
+  lays-no-door e = rw e (record { bit = refl; bitFew = omega arith; bytes = refl; few = omega arith })
+
+  pub lays-door :
+      {x : ℕ} → o ≡ some x → x < 2 ^ 32 →
+      let w = (x / 65536 + 65535) / 65536 in
+      Doors (shortDoor o) (wideDoor o) (record { bit = 1 + 15 * w; size = 2 + 2 * w; number = x })
+  unfolding digits bitsOf laid
+  lays-door {x} e h = rw e (go (decLt x wideFrom))
+    where
+      go :
+          Dec (x < wideFrom) →
+          let w = (x / 65536 + 65535) / 65536 in
+          Doors (shortDoor (some x)) (wideDoor (some x)) (record { bit = 1 + 15 * w; size = 2 + 2 * w; number = x })
+      go (yes l) =
+          let f = is-short x l in
+          let w : (x / 65536 + 65535) / 65536 ≡ 0 = omega arith in
+          rw (f .0, f .1, w) (record { bit = refl; bitFew = omega arith; bytes = refl; few = omega arith })
+      go (no l) =
+          let f = is-wide x (omega arith) in
+          let w : (x / 65536 + 65535) / 65536 ≡ 1 = omega arith in
+          rw (f .0, f .1, w) (record { bit = refl; bitFew = omega arith; bytes = refl; few = omega arith })
+
+  -- and a time
+  pub lays-no-time : o ≡ none → Lays ((1, 8) ∷ []) (o ∷ []) (record { bit = 0; size = 0; number = 0 })
+  unfolding digits bitsOf laid
+  lays-no-time e = rw e (record { bit = refl; bitFew = omega arith; bytes = refl; few = omega arith })
+
+  pub lays-time : {x : ℕ} → o ≡ some x → Lays ((1, 8) ∷ []) (o ∷ []) (record { bit = 2; size = 8; number = x })
+  unfolding digits bitsOf laid
+  lays-time {x} e = rw e (record { bit = refl; bitFew = omega arith; bytes = refl; few = omega arith })
 
 -- what stands in a record that is written from the front
 pub record-steps :

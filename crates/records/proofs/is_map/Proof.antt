@@ -1,0 +1,15 @@
+-- `records::is_map` meets its contract: its tests are those of the definition.
+use borrow.Author.Needs.{needs}
+use Rattle.records.proofs.is_map.Statement.{statement}
+use Rattle.records.proofs.is_map.Tie as tie
+
+pub is-map-spec : {M : Type 1} → statement M
+is-map-spec =
+    tie.close
+    (tie.spec
+    (λ c κs. search needs)
+    (λ c κs. search needs)
+    (λ c. search needs)
+    (λ c κs. search needs)
+    (λ c κs. search needs)
+    (λ c. cc))
