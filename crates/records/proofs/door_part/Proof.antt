@@ -22,4 +22,4 @@ door-part-spec =
     (λ c. search needs)
     (λ c. search needs)
     (λ c. lays-no-door (ap doorNumber (c .enum-told .given .1)))
-    (λ c. lays-door (ap doorNumber (c .before .door .given .1)) (omega arith)))
+    (λ c. lays-door (ap doorNumber (c .before .door .given .1)) (λ l. omega arith) (λ l. omega arith)))

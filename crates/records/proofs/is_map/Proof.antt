@@ -1,5 +1,6 @@
 -- `records::is_map` meets its contract: its tests are those of the definition.
 use borrow.Author.Needs.{needs}
+use Rattle.records.specs.Laws.Steps.{map-tests}
 use Rattle.records.proofs.is_map.Statement.{statement}
 use Rattle.records.proofs.is_map.Tie as tie
 
@@ -12,4 +13,5 @@ is-map-spec =
     (λ c. search needs)
     (λ c κs. search needs)
     (λ c κs. search needs)
-    (λ c. cc))
+    (λ c.
+    map-tests _ (c .before .before .before .bit .ensures) (c .before .before .bit2 .ensures) (c .before .bit3 .ensures) (c .bit4 .ensures)))

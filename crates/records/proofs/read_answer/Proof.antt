@@ -1,14 +1,13 @@
 -- `records::read_answer` meets its contract: it asks the questions of the definition, and the lengths are small enough to be added.
 use native.Mathlib.Omega.{arith}
 use borrow.Author.Needs.{needs}
-use Rattle.questions.specs.Answers.{earliest}
 use Rattle.sets.specs.Laws.Rows.{few-bytes}
 use Rattle.records.specs.Laws.Fields.{head-few}
+use Rattle.records.specs.Laws.Steps.{read-asks}
 use Rattle.records.proofs.read_answer.Statement.{statement}
 use Rattle.records.proofs.read_answer.Tie as tie
 
 pub read-answer-spec : {M : Type 1} → statement M
-unfolding earliest
 read-answer-spec =
     tie.close
     (tie.spec
@@ -26,4 +25,4 @@ read-answer-spec =
     (λ c κs. search needs)
     (λ c κs. search needs)
     (λ c κs. search needs)
-    (λ c. cc))
+    (λ c. search read-asks))

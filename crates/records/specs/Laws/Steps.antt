@@ -1,12 +1,13 @@
 -- The steps of the calls: what the code reads of a record and writes into it, one number after another, is the definition.
 use Prim.Native.Nat.{ℕ, zero, suc, _+_, _-_, _*_, _/_, _^_, _<_, _≤_}
+use mathlib.Core.Bool.{Bool, _&&_}
 use mathlib.Core.List.{List, [], _∷_, _++_, append-assoc}
 use mathlib.Core.Option.{Option, none, some, Option·getD, orElse}
 use mathlib.Core.Path.{_≡_, refl, sym, ap, _∙_}
 use native.Mathlib.Nat.{pow-le-pow-right, one-le-pow, lt-of-lt-of-le, min-le-left, mod-lt}
 use native.Mathlib.Decide.{decLt}
 use native.Mathlib.Omega.{arith}
-use lib.Dec.{eqb}
+use lib.Dec.{eqb, ltb, leb}
 use lib.ListN.{length, getD, take, drop, length-take, length-drop, drop-of-length-le}
 use lib.Seq.{drop-drop, take-all, take-nil}
 use borrow.Author.Tests.{eq-eqb, ne-eqb}
@@ -14,10 +15,14 @@ use Rattle.lists.specs.Numbers.{number, digits, digit}
 use Rattle.lists.specs.Strings.{placed}
 use Rattle.lists.specs.Laws.Numbers.{length-digits}
 use Rattle.lists.specs.Laws.Parts.{last-part, prefix-none, prefix-copy, prefix-all}
+use Rattle.questions.specs.Answers.{ask, earliest}
+use Rattle.sets.specs.declared.Params.{Params}
+use Rattle.sets.specs.Sets.{paramsOf}
 use Rattle.records.specs.declared.Door.{Door}
 use Rattle.records.specs.declared.Time.{Time}
 use Rattle.records.specs.declared.Part.{Part}
-use Rattle.records.specs.Records.{fields, stands, given, wideFrom, shortDoor, wideDoor, bitsOf, laid, numbersIn, doorOf, timeOf, headIn}
+use Rattle.records.specs.Records.{fields, stands, headLength, given, wideFrom, shortDoor, wideDoor, bitsOf, laid, numbersIn}
+use Rattle.records.specs.Records.{doorOf, timeOf, headIn, isMap, readQuestions, doorOrZero}
 use Rattle.records.specs.Rooms.{Lays, WriteRoom}
 use Rattle.records.specs.Laws.Doors.{is-short, is-wide}
 
@@ -87,6 +92,21 @@ head-steps s em eb ec eb′ ed et en =
       drop-drop (digit 2 m 1 * 8) (1 + digit 2 m 0 * 2 + digit 2 m 4 * 4) s,
     )
 
+-- the tests of a map, by its bits
+pub map-tests :
+    (m : ℕ) {b c d e : ℕ} → b ≡ digit 2 m 0 → c ≡ digit 2 m 4 → d ≡ digit 2 m 2 → e ≡ digit 2 m 3 →
+    ltb m 32 && leb (b + c) 1 && eqb d 1 && eqb e 1 ≡ isMap m
+map-tests m eb ec ed ee = rw (eb, ec, ed, ee)
+
+-- the questions of a reader, asked from the last to the first
+pub read-asks :
+    (m set size ct : ℕ) (door : Door) {p : Params} {h b d r1 r2 r3 r4 r5 r6 r7 r : ℕ} {t : Bool} → p ≡ paramsOf set → h ≡ headLength m →
+    b ≡ digit 2 m 4 → d ≡ doorOrZero door → t ≡ isMap m → r1 ≡ ask (eqb ct (p .ct)) 9 0 → r2 ≡ ask (leb b (d / wideFrom)) 12 r1 →
+    r3 ≡ ask (eqb size (h + p .ct)) 11 r2 → r4 ≡ ask (ltb 0 (p .l)) 1 r3 → r5 ≡ ask (ltb 0 set) 1 r4 → r6 ≡ ask (leb h size) 11 r5 →
+    r7 ≡ ask t 10 r6 → r ≡ ask (ltb 0 size) 10 r7 → r ≡ earliest (readQuestions m (doorOrZero door) set size ct)
+unfolding earliest
+read-asks m set size ct door ep eh eb ed et e1 e2 e3 e4 e5 e6 e7 e = rw (e, e7, e6, e5, e4, e3, e2, e1, ep, eh, eb, ed, et)
+
 -- how a door is written, and a missing one; w is 0 for a short one and 1 for a wide one
 abbrev Doors : Option ℕ → Option ℕ → Part → Type 0
 Doors a b = Lays ((0, 2) ∷ (4, 4) ∷ []) (a ∷ b ∷ [])
@@ -97,24 +117,19 @@ module _ {o : Option ℕ} where
   lays-no-door e = rw e (record { bit = refl; bitFew = omega arith; bytes = refl; few = omega arith })
 
   pub lays-door :
-      {x : ℕ} → o ≡ some x → x < 2 ^ 32 →
-      let w = (x / 65536 + 65535) / 65536 in
+      {x w : ℕ} → o ≡ some x → (x < wideFrom → w ≡ 0) → (wideFrom ≤ x → w ≡ 1) →
       Doors (shortDoor o) (wideDoor o) (record { bit = 1 + 15 * w; size = 2 + 2 * w; number = x })
   unfolding digits bitsOf laid
-  lays-door {x} e h = rw e (go (decLt x wideFrom))
+  lays-door {x} {w} e short wide = rw e (go (decLt x wideFrom))
     where
-      go :
-          Dec (x < wideFrom) →
-          let w = (x / 65536 + 65535) / 65536 in
-          Doors (shortDoor (some x)) (wideDoor (some x)) (record { bit = 1 + 15 * w; size = 2 + 2 * w; number = x })
+      go : Dec (x < wideFrom) → Doors (shortDoor (some x)) (wideDoor (some x)) (record { bit = 1 + 15 * w; size = 2 + 2 * w; number = x })
       go (yes l) =
           let f = is-short x l in
-          let w : (x / 65536 + 65535) / 65536 ≡ 0 = omega arith in
-          rw (f .0, f .1, w) (record { bit = refl; bitFew = omega arith; bytes = refl; few = omega arith })
+          rw (f .0, f .1, short l) (record { bit = refl; bitFew = omega arith; bytes = refl; few = omega arith })
       go (no l) =
-          let f = is-wide x (omega arith) in
-          let w : (x / 65536 + 65535) / 65536 ≡ 1 = omega arith in
-          rw (f .0, f .1, w) (record { bit = refl; bitFew = omega arith; bytes = refl; few = omega arith })
+          let m : wideFrom ≤ x = omega arith in
+          let f = is-wide x m in
+          rw (f .0, f .1, wide m) (record { bit = refl; bitFew = omega arith; bytes = refl; few = omega arith })
 
   -- and a time
   pub lays-no-time : o ≡ none → Lays ((1, 8) ∷ []) (o ∷ []) (record { bit = 0; size = 0; number = 0 })
