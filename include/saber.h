@@ -47,7 +47,7 @@ enum saber_answer {
     SABER_OUTPUT_LENGTH = 9,      // an output has not the length of its result
     SABER_RECORD_MAP = 10,        // the record is empty, or its map has bits that no field has, has both doors, or lacks set or ciphertext
     SABER_RECORD_LENGTH = 11,     // the record has not the length that its map and set byte require
-    SABER_RECORD_DOOR = 12        // the record has a wide door that is 65535 or less
+    SABER_RECORD_DOOR = 12        // the record's door of 4 bytes is 65535 or less
 };
 
 // Set numbers. 0 means the same as 2.
@@ -126,7 +126,7 @@ uint8_t saber_decrypt(uint32_t set, const uint8_t *plain_secret, size_t plain_se
 // Records: one layout for a ciphertext with its set, and a door number and a time that may be missing. A record is a byte with a bit map
 // and then the fields whose bit stands, low bytes first: door (bit 0, 2 bytes, up to 65535; or bit 4, 4 bytes, above), time (bit 1,
 // 8 bytes, any value), set (bit 2, 1 byte), ciphertext (bit 3, its set's length). So it has 2 bytes, 2 more with a door up to 65535 or 4
-// more with a wider one, 8 more with a time, and the ciphertext. An entry has one record, and writing and reading undo each other.
+// more with one above, 8 more with a time, and the ciphertext. An entry has one record, and writing and reading undo each other.
 
 // Writes the record of an entry. Where has_door or has_time is 0 the field is missing and the number after the flag is not looked at; any
 // other flag says that it is there. Set 0 is stored as the set that it means. Refusals: 1, 6, 9.
@@ -137,8 +137,8 @@ uint8_t saber_write_record(uint8_t has_door, uint32_t door, uint8_t has_time, ui
 // as it was, so that a missing field never reads as 0; *set is 1, 2 or 3. On a refusal no flag, number or byte changes. Who does not know
 // the set finds the ciphertext's count from the record's: less 2, less 2 more if record[0] has bit 0, less 4 more if it has bit 4, less 8
 // more if it has bit 1. Where that is below 0 or more than can be lent, no read is accepted, and 0 bytes may be lent. The record's length
-// is asked for twice, whether there is a set byte and, once that is known, whether all is there and no more.
-// Refusals: 10, 11, 1, 11, 12, 9.
+// is asked for twice, whether there is a set byte and, once that is known, whether all is there and no more. *door has 32 bits: a program
+// that was compiled when it had 16 has to be compiled again. Refusals: 10, 11, 1, 11, 12, 9.
 uint8_t saber_read_record(const uint8_t *record, size_t record_count, uint8_t *has_door, uint32_t *door, uint8_t *has_time,
                           uint64_t *time, uint32_t *set, uint8_t *ciphertext, size_t ciphertext_count);
 

@@ -7,8 +7,8 @@ from pathlib import Path
 
 from calls import CALLS
 
-CODES = {8: "B", 16: "H", 32: "I", 64: "Q"}  # of numbers in memory, by their bits
-TYPES = {8: ctypes.c_uint8, 16: ctypes.c_uint16, 32: ctypes.c_uint32, 64: ctypes.c_uint64}
+CODES = {8: "B", 32: "I", 64: "Q"}  # of numbers in memory, by their bits
+TYPES = {8: ctypes.c_uint8, 32: ctypes.c_uint32, 64: ctypes.c_uint64}
 ELEMENTS = {"bytes": "B", "list": "H", "signed": "b"}  # codes too, by the kinds of slices
 
 

@@ -72,7 +72,10 @@ def narrow_wide_door(draw, record, other):
 
 
 def any_bytes(draw, record, other):
-    """Any bytes behind any map that is one, or any bytes at all, often with a sound length."""
+    """Any bytes behind any map that is one, wide doors more often, with a set byte of 0 to 4; or any bytes at all.
+
+    Often with a sound length.
+    """
     string = draw.randbytes(draw.choice((len(record), draw.randrange(30), draw.randrange(1600))))
     if draw.random() < 0.3:
         return string

@@ -38,8 +38,9 @@ pub const SEED: usize = 32;
 /// Coefficients of a polynomial.
 pub const N: usize = 256;
 
-/// Why a call was refused: the first of these that applies; [`read_record`] has an order of its own.
+/// Why a call was refused: the first of these that applies; [`read_record`] has an order of its own. More may be added.
 #[derive(Clone, Copy, Debug, PartialEq, Eq)]
+#[non_exhaustive]
 #[repr(u8)]
 pub enum Refusal {
     UnknownSet = 1,
@@ -70,7 +71,7 @@ impl fmt::Display for Refusal {
             Refusal::OutputLength => "an output has not the length of its result",
             Refusal::RecordMap => "the record is empty, or its map has bits that no field has, has both doors, or lacks set or ciphertext",
             Refusal::RecordLength => "the record has not the length that its map and set byte require",
-            Refusal::RecordDoor => "the record has a wide door that is 65535 or less",
+            Refusal::RecordDoor => "the record's door of 4 bytes is 65535 or less",
         })
     }
 }
@@ -226,7 +227,7 @@ pub fn write_record(door: Option<u32>, time: Option<u64>, set: u32, ciphertext: 
 
 /// Reads a record and copies its ciphertext out. The ciphertext has the record's length less 2, less 2 more if `record[0]` has bit 0, less
 /// 4 more if it has bit 4, less 8 more if it has bit 1; where there is no such length the read is refused. Asked are, in this order: the
-/// map, whether there is a set byte, that byte, the record's length, whether a wide door is above 65535, and the ciphertext's length.
+/// map, whether there is a set byte, that byte, the record's length, whether a door of 4 bytes is above 65535, and the ciphertext's length.
 pub fn read_record(record: &[u8], ciphertext: &mut [u8]) -> Result<Entry, Refusal> {
     let (mut has_door, mut door, mut has_time, mut time, mut set) = (0, 0, 0, 0, 0);
     // SAFETY: as for the calls above; each number lent is a variable of its own.

@@ -167,6 +167,8 @@ fn refused_records_leave_outputs_alone() {
     assert_eq!(read(&[&[0x1c, 0xff, 0xff, 0, 0], &record[3..]].concat()), Err(Refusal::RecordDoor));
     assert_eq!(read(&[&[0x1c, 0xff, 0xff, 0, 0], &record[3..739]].concat()), Err(Refusal::RecordLength));
     assert_eq!(saber::read_record(&record, &mut ciphertext[1..]), Err(Refusal::OutputLength));
+    let narrow = [&[0x1c, 0xff, 0xff, 0, 0], &record[3..]].concat();
+    assert_eq!(saber::read_record(&narrow, &mut ciphertext[1..]), Err(Refusal::RecordDoor));
     assert_eq!(ciphertext, [0xa5; 736]);
 }
 

@@ -1,7 +1,7 @@
 -- Document 02, A1 and A7: the record of a sealed entry. Byte 0 is a bit map, and only the fields whose bit stands follow, in bit order,
 -- little-endian; a wide door, bit 4, stands where the short one would.
-use Prim.Native.Nat.{ℕ, zero, suc, _+_, _*_, _/_, _^_, _<_}
-use mathlib.Core.Bool.{Bool, true, false, _&&_}
+use Prim.Native.Nat.{ℕ, zero, suc, _+_, _*_, _^_, _<_}
+use mathlib.Core.Bool.{Bool, true, false, not, _&&_}
 use mathlib.Core.List.{List, [], _∷_, _++_}
 use mathlib.Core.Option.{Option, none, some, Option·getD, orElse}
 use mathlib.Core.Path.{_≡_}
@@ -149,20 +149,21 @@ headIn s = headOf (numbersIn (mapIn s) fields (drop 1 s))
 abbrev pub ciphertextIn : List ℕ → List ℕ
 ciphertextIn s = drop (headLength (mapIn s)) s
 
--- whether a byte is a map: its bits 5 to 7 are clear, bits 0 and 4 do not both stand, and bits 2 and 3 do
+-- whether a byte is a map. A7: "Bits 0 and 4 together fall under 10, and bit 4 leaves that refusal's list otherwise". So bits 5 to 7 are clear,
+-- bits 0 and 4 do not both stand, and bits 2 and 3 do
 abbrev pub isMap : ℕ → Bool
-isMap m = ltb m 32 && leb (digit 2 m 0 + digit 2 m 4) 1 && stands m 2 && stands m 3
+isMap m = ltb m 32 && not (stands m 0 && stands m 4) && stands m 2 && stands m 3
 
 -- the questions of a reader, by the record's map, its door (0 where it is missing), its set byte, its length and the output's. 10: it is not
 -- empty, and its map is one. 11: it is not too short for the set byte. 1: that is a set's own number, so not 0. 11: the total is what map and
--- set require. 12: a wide field holds a wide door. 9: the output has the ciphertext's length
+-- set require. 12: it has no "wide field holding 65535 or less". 9: the output has the ciphertext's length
 abbrev pub readQuestions : ℕ → ℕ → ℕ → ℕ → ℕ → List Question
 readQuestions m door set size ct =
     (ltb 0 size, 10) ∷ (isMap m, 10)
     ∷ (leb (headLength m) size, 11)
     ∷ (ltb 0 set, 1) ∷ (known set, 1)
     ∷ (eqb size (headLength m + paramsOf set .ct), 11)
-    ∷ (leb (digit 2 m 4) (door / wideFrom), 12)
+    ∷ (not (stands m 4 && ltb door wideFrom), 12)
     ∷ (eqb ct (paramsOf set .ct), 9) ∷ []
 
 -- the number of a door, 0 where it is missing

@@ -1,15 +1,16 @@
 -- What the inner functions ask and give, and what an answer of 0 says of a record that is read.
-use Prim.Native.Nat.{ℕ, _+_, _/_, _<_, _≤_}
-use mathlib.Core.Bool.{true}
+use Prim.Native.Nat.{ℕ, _+_, _<_, _≤_}
+use mathlib.Core.Bool.{true, not, _&&_}
 use mathlib.Core.List.{List}
 use mathlib.Core.Path.{_≡_}
 use mathlib.Core.Option.{Option}
-use Rattle.lists.specs.Numbers.{digits, digit}
+use lib.Dec.{ltb}
+use Rattle.lists.specs.Numbers.{digits}
 use Rattle.sets.specs.Sets.{paramsOf, known}
 use Rattle.records.specs.declared.Part.{Part}
-use Rattle.records.specs.Records.{Field, headLength, wideFrom, bitsOf, laid, isMap}
+use Rattle.records.specs.Records.{Field, stands, headLength, wideFrom, bitsOf, laid, isMap}
 
--- how numbers are written in their fields, as one of them that is there or none
+-- how numbers are written in their fields, where at most one of them is there
 pub record Lays (fs : List Field) (xs : List (Option ℕ)) (r : Part) : Type 0 where
   pub bit : r .bit ≡ bitsOf fs xs
   pub bitFew : r .bit ≤ 16
@@ -30,5 +31,5 @@ pub record Readable (m door set size ct : ℕ) : Type 0 where
   pub setSome : 0 < set
   pub setKnown : known set ≡ true
   pub sizeIs : size ≡ headLength m + paramsOf set .ct
-  pub wide : digit 2 m 4 ≤ door / wideFrom
+  pub wide : not (stands m 4 && ltb door wideFrom) ≡ true
   pub ctIs : ct ≡ paramsOf set .ct

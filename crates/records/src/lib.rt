@@ -60,7 +60,8 @@ fn head_length(map: u8) -> usize
     1 + bit(map, 0) * 2 + bit(map, 4) * 4 + bit(map, 1) * 8 + bit(map, 2)
 }
 
-// How a door is written, short up to 65535 and wide above, by its upper half and with no test of the number; and a time.
+// How a door is written, short up to 65535 and wide above: `wide` is 0 or 1 and follows from the upper half, so that no jump depends on the
+// lower one.
 fn door_part(door: Door) -> Part
     ensures { λ r. ⌜ Lays ((0, 2) ∷ (4, 4) ∷ []) (shortDoor (doorNumber door) ∷ wideDoor (doorNumber door) ∷ []) r ⌝ }
 {
@@ -81,6 +82,7 @@ fn door_part(door: Door) -> Part
     }
 }
 
+// How a time is written.
 fn time_part(time: Time) -> Part
     ensures { λ r. ⌜ Lays ((1, 8) ∷ []) (timeNumber time ∷ []) r ⌝ }
 {
@@ -228,8 +230,8 @@ fn door_number(door: Door) -> usize
 fn is_map(map: u8) -> bool
     ensures { λ r. ⌜ r ≡ isMap map ⌝ }
 {
-    let doors = bit(map, 0) + bit(map, 4);
-    (map < 32) & (doors <= 1) & (bit(map, 2) == 1) & (bit(map, 3) == 1)
+    let both = (bit(map, 0) == 1) & (bit(map, 4) == 1);
+    (map < 32) & !both & (bit(map, 2) == 1) & (bit(map, 3) == 1)
 }
 
 // What reading answers: 10, 11, 1, 11, 12, 9.

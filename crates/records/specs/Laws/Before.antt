@@ -1,24 +1,24 @@
 -- Laws of records from before A7: every record that was accepted then reads to the same entry as it did, and an entry that could be
 -- written then has the same record.
-use Prim.Native.Nat.{ℕ, _+_, _/_, _<_}
-use mathlib.Core.Bool.{Bool, _&&_}
+use Prim.Native.Nat.{ℕ, _<_}
+use mathlib.Core.Bool.{Bool, not, _&&_}
 use mathlib.Core.List.{List}
 use mathlib.Core.Option.{Option, none, some, orElse}
 use mathlib.Core.Path.{_≡_, refl, ap, _∙_}
 use native.Mathlib.Nat.{zero-add}
 use native.Mathlib.Omega.{arith}
-use lib.Dec.{ltb, leb}
+use lib.Dec.{ltb}
 use lib.ListN.{length}
-use borrow.Author.Tests.{ltb-true, lt-ltb, le-leb}
+use borrow.Author.Tests.{ltb-true, lt-ltb}
 use Rattle.lists.specs.Numbers.{digit}
-use Rattle.lists.specs.Laws.Booleans.{and-left}
+use Rattle.lists.specs.Laws.Booleans.{and-left, and-false}
 use Rattle.questions.specs.Answers.{earliest}
 use Rattle.questions.specs.Laws.Answers.{all-yes}
 use Rattle.records.specs.declared.Head.{Head}
 use Rattle.records.specs.declared.Read.{Read}
 use Rattle.records.specs.declared.Read.the-variants.{Entry}
-use Rattle.records.specs.Records.{fields, stands, takenBy, headLength, doorNumber, wideFrom, shortDoor, wideDoor, bitsOf, laid}
-use Rattle.records.specs.Records.{recordOf, mapIn, numbersIn, headIn, ciphertextIn, isMap, doorOrZero, readAnswer, Fits}
+use Rattle.records.specs.Records.{fields, stands, takenBy, headLength, doorNumber, shortDoor, wideDoor, bitsOf, laid}
+use Rattle.records.specs.Records.{recordOf, mapIn, numbersIn, headIn, ciphertextIn, isMap, readAnswer, Fits}
 use Rattle.records.specs.Before as before
 use Rattle.records.specs.Promises.{Retrieved}
 use Rattle.records.specs.Laws.Doors.{is-short}
@@ -47,15 +47,14 @@ module _ (s : List ℕ) (h : mapIn s < 16) where
   map-as-before : isMap (mapIn s) ≡ before.isMap (mapIn s)
   map-as-before =
       let m = mapIn s in
-      let doors = digit 2 m 0 + digit 2 m 4 in
-      let few : ltb m 32 && leb doors 1 ≡ ltb m 16 = rw (lt-ltb m 32 (omega arith), le-leb doors 1 (omega (arith, no-wide)), lt-ltb m 16 h) in
+      let few : ltb m 32 && not (stands m 0 && stands m 4) ≡ ltb m 16 = rw (lt-ltb m 32 (omega arith), no-wide, and-false, lt-ltb m 16 h) in
       ap (λ (b : Bool). b && stands m 2 && stands m 3) few
 
   -- it is answered as it was, whether it is accepted or refused
   pub answer-as-before : (ct : ℕ) → readAnswer s ct ≡ before.readAnswer s ct
   unfolding earliest
   answer-as-before ct =
-      rw (head-as-before, length-as-before, map-as-before, no-wide, le-leb 0 (doorOrZero (before.headIn s .door) / wideFrom) (omega arith))
+      rw (head-as-before, length-as-before, map-as-before, no-wide)
 
 -- every record that was accepted reads to the same entry as before
 pub read-as-before :

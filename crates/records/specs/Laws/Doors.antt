@@ -1,11 +1,12 @@
 -- Laws of a door in its two fields, the short one and the wide one: its size says which of them has it.
-use Prim.Native.Nat.{ℕ, zero, suc, _+_, _/_, _<_, _≤_}
+use Prim.Native.Nat.{ℕ, zero, suc, _/_, _<_, _≤_}
+use mathlib.Core.Bool.{true, not, _&&_, false≢true}
 use mathlib.Core.Option.{Option, none, some, Option·getD, orElse}
 use mathlib.Core.Path.{_≡_, refl}
 use native.Mathlib.Decide.{decLt}
 use native.Mathlib.Omega.{arith}
-use lib.Dec.{eqb}
-use borrow.Author.Tests.{lt-ltb, le-ltb, le-leb, lt-leb}
+use lib.Dec.{eqb, ltb, leb}
+use borrow.Author.Tests.{ltb-false, not-true, lt-ltb, le-ltb, le-leb, lt-leb}
 use Rattle.records.specs.Records.{given, wideFrom, shortDoor, wideDoor, Fits}
 
 -- a short door, and a wide one
@@ -37,13 +38,24 @@ doors-fit = by-width (λ o s w. Fits 4 o → Fits 2 s × Fits 4 w) (λ f. (tt, t
 
 -- what a reader takes from the two fields, by their bits b and c, is written into them again
 pub doors-again :
-    (b c x y : ℕ) → b + c ≤ 1 → (b ≡ 1 → x < wideFrom) →
+    (b c x y : ℕ) → b < 2 → c < 2 → not (eqb b 1 && eqb c 1) ≡ true → (b ≡ 1 → x < wideFrom) →
     let o = orElse (given (eqb b 1) x) (given (eqb c 1) y) in
-    c ≤ Option·getD o 0 / wideFrom → (shortDoor o ≡ given (eqb b 1) x) × (wideDoor o ≡ given (eqb c 1) y)
+    not (eqb c 1 && ltb (Option·getD o 0) wideFrom) ≡ true → (shortDoor o ≡ given (eqb b 1) x) × (wideDoor o ≡ given (eqb c 1) y)
 unfolding orElse
-doors-again zero zero x y h l w = (refl, refl)
-doors-again (suc zero) zero x y h l w = is-short x (l refl)
-doors-again zero (suc zero) x y h l w = is-wide y (omega arith)
-doors-again (suc zero) (suc c) x y h l w = absurd (omega arith)
-doors-again (suc (suc b)) c x y h l w = absurd (omega arith)
-doors-again zero (suc (suc c)) x y h l w = absurd (omega arith)
+doors-again zero zero x y hb hc h l w = (refl, refl)
+doors-again (suc zero) zero x y hb hc h l w = is-short x (l refl)
+doors-again zero (suc zero) x y hb hc h l w = is-wide y (ltb-false y wideFrom (not-true (ltb y wideFrom) w))
+doors-again (suc zero) (suc zero) x y hb hc h l w = absurd (false≢true h)
+doors-again (suc (suc b)) c x y hb hc h l w = absurd (omega arith)
+doors-again zero (suc (suc c)) x y hb hc h l w = absurd (omega arith)
+doors-again (suc zero) (suc (suc c)) x y hb hc h l w = absurd (omega arith)
+
+-- by the upper half: a wide field, whose bit is b, does not hold 65535 or less
+pub upper-half : (b x : ℕ) → b < 2 → leb b (x / wideFrom) ≡ not (eqb b 1 && ltb x wideFrom)
+upper-half zero x h = le-leb 0 (x / wideFrom) (omega arith)
+upper-half (suc zero) x h = go (decLt x wideFrom)
+  where
+    go : Dec (x < wideFrom) → leb 1 (x / wideFrom) ≡ not (ltb x wideFrom)
+    go (yes l) = rw (lt-ltb x wideFrom l, lt-leb 1 (x / wideFrom) (omega arith))
+    go (no l) = rw (le-ltb x wideFrom (omega arith), le-leb 1 (x / wideFrom) (omega arith))
+upper-half (suc (suc b)) x h = absurd (omega arith)

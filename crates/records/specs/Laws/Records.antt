@@ -1,16 +1,16 @@
 -- Laws of records: a reader gets back what was written, and a writer writes again what was read.
 use Prim.Native.Nat.{ℕ, zero, suc, _+_, _*_, _/_, _^_, _<_, _≤_}
-use mathlib.Core.Bool.{true, _&&_}
+use mathlib.Core.Bool.{true, not, _&&_}
 use mathlib.Core.List.{List, [], _∷_}
 use mathlib.Core.Option.{Option, none, some, Option·getD, orElse}
 use mathlib.Core.Path.{_≡_, refl, sym, ap, ap₂, _∙_}
 use native.Mathlib.Nat.{mod-lt, zero-mul, one-mul}
 use native.Mathlib.Omega.{arith}
-use lib.Dec.{eqb, ltb, leb}
+use lib.Dec.{eqb, ltb}
 use lib.ListN.{length, getD, take, drop, length-append, length-drop, take-append-drop}
 use lib.Seq.{drop-at, drop-drop, length-take-le}
 use borrow.Author.Needs.{needs}
-use borrow.Author.Tests.{eq-eqb, lt-ltb, le-leb, eqb-true, ltb-true, leb-true}
+use borrow.Author.Tests.{eq-eqb, lt-ltb, le-ltb, le-leb, eqb-true, ltb-true, leb-true}
 use Rattle.lists.specs.Lists.{from}
 use Rattle.lists.specs.Numbers.{number, digits, digit, Below}
 use Rattle.lists.specs.Laws.Numbers.{below-take, digits-from, number-digits, number-lt}
@@ -47,7 +47,7 @@ computed = (refl, refl, refl, refl)
 pub record Mapped (m : ℕ) (o : Option ℕ) (xs : List (Option ℕ)) : Type 0 where
   pub agree : Agree m fields xs
   pub map : isMap m ≡ true
-  pub wide : digit 2 m 4 ≤ Option·getD o 0 / wideFrom
+  pub wide : not (stands m 4 && ltb (Option·getD o 0) wideFrom) ≡ true
 
 -- the map of a head with the time t, the set n and the door o, whose two fields hold a and b
 abbrev pub MappedBy : Option ℕ → ℕ → Option ℕ → Option ℕ → Option ℕ → Type 0
@@ -57,14 +57,14 @@ pub mapped : (t : Option ℕ) (n : ℕ) (o : Option ℕ) → MappedBy t n o (sho
 unfolding fields bitsOf
 mapped none n =
     by-width (MappedBy none n)
-    (record { agree = (refl, (refl, (refl, (refl, tt)))); map = refl; wide = omega arith })
-    (λ x h. record { agree = (refl, (refl, (refl, (refl, tt)))); map = refl; wide = omega arith })
-    (λ x h. record { agree = (refl, (refl, (refl, (refl, tt)))); map = refl; wide = omega arith })
+    (record { agree = (refl, (refl, (refl, (refl, tt)))); map = refl; wide = refl })
+    (λ x h. record { agree = (refl, (refl, (refl, (refl, tt)))); map = refl; wide = refl })
+    (λ x h. record { agree = (refl, (refl, (refl, (refl, tt)))); map = refl; wide = rw (le-ltb x wideFrom h) })
 mapped (some y) n =
     by-width (MappedBy (some y) n)
-    (record { agree = (refl, (refl, (refl, (refl, tt)))); map = refl; wide = omega arith })
-    (λ x h. record { agree = (refl, (refl, (refl, (refl, tt)))); map = refl; wide = omega arith })
-    (λ x h. record { agree = (refl, (refl, (refl, (refl, tt)))); map = refl; wide = omega arith })
+    (record { agree = (refl, (refl, (refl, (refl, tt)))); map = refl; wide = refl })
+    (λ x h. record { agree = (refl, (refl, (refl, (refl, tt)))); map = refl; wide = refl })
+    (λ x h. record { agree = (refl, (refl, (refl, (refl, tt)))); map = refl; wide = rw (le-ltb x wideFrom h) })
 
 -- a head and its numbers
 door-back : (d : Door) → doorOf (doorNumber d) ≡ d
@@ -89,7 +89,7 @@ module _ (m door set size ct : ℕ) where
   accepted-by w =
       none-no (readQuestions m door set size ct)
       (lt-ltb _ _ (w .some) and w .map and le-leb _ _ (w .reaches) and lt-ltb _ _ (w .setSome) and w .setKnown and eq-eqb _ _ (w .sizeIs)
-      and le-leb _ _ (w .wide) and eq-eqb _ _ (w .ctIs) and tt)
+      and w .wide and eq-eqb _ _ (w .ctIs) and tt)
 
 module _ (d : Door) (t : Time) (set : ℕ) (c : List ℕ) (fd : Fits 4 (doorNumber d)) (ft : Fits 8 (timeNumber t)) (k : known set ≡ true)
     (l : length c ≡ paramsOf set .ct) where
@@ -150,19 +150,19 @@ module _ (d : Door) (t : Time) (set : ℕ) (c : List ℕ) (fd : Fits 4 (doorNumb
 -- what the bits of a map are
 record Bits (m : ℕ) : Type 0 where
   few : m < 32
-  oneDoor : digit 2 m 0 + digit 2 m 4 ≤ 1
+  oneDoor : not (stands m 0 && stands m 4) ≡ true
   setThere : digit 2 m 2 ≡ 1
   ciphertextThere : digit 2 m 3 ≡ 1
 
 bits-of : (m : ℕ) → isMap m ≡ true → Bits m
 bits-of m h =
-    let two = ltb m 32 && leb (digit 2 m 0 + digit 2 m 4) 1 in
+    let two = ltb m 32 && not (stands m 0 && stands m 4) in
     let three = two && stands m 2 in
     let front = and-left three _ h in
     let start = and-left two _ front in
     record {
       few = ltb-true m 32 (and-left (ltb m 32) _ start);
-      oneDoor = leb-true (digit 2 m 0 + digit 2 m 4) 1 (and-right (ltb m 32) _ start);
+      oneDoor = and-right (ltb m 32) _ start;
       setThere = eqb-true (digit 2 m 2) 1 (and-right two _ front);
       ciphertextThere = eqb-true (digit 2 m 3) 1 (and-right three _ h);
     }
@@ -188,7 +188,7 @@ map-given m s h =
     )
     (omega (arith, five-bits m (h .few)))
 
--- the numbers of the head that is read by a map with bit 2
+-- the numbers of the head that is read by a map that is one, where no wide field holds a short door
 door-again : (x : Option ℕ) → doorNumber (doorOf x) ≡ x
 door-again none = refl
 door-again (some x) = refl
@@ -199,13 +199,15 @@ time-again (some x) = refl
 
 numbers-head :
     (m : ℕ) (s : List ℕ) → let h = headOf (numbersIn m fields s) in
-    takenBy m fields ≤ length s → Below 256 s → Bits m → digit 2 m 4 ≤ doorOrZero (h .door) / wideFrom → numbersOf h ≡ numbersIn m fields s
+    takenBy m fields ≤ length s → Below 256 s → Bits m → not (stands m 4 && ltb (doorOrZero (h .door)) wideFrom) ≡ true →
+    numbersOf h ≡ numbersIn m fields s
 unfolding fields numbersIn takenBy
 numbers-head m s l b o w =
     let x = number 256 (take 2 s) in
     let y = number 256 (take 4 (drop (taken m (0, 2)) s)) in
     let d = orElse (given (stands m 0) x) (given (stands m 4) y) in
-    let again = doors-again (digit 2 m 0) (digit 2 m 4) x y (o .oneDoor) few (rw (door-again d) at w) in
+    let bit : (k : ℕ) → digit 2 m k < 2 = λ k. mod-lt (m / 2 ^ k) (omega arith) in
+    let again = doors-again (digit 2 m 0) (digit 2 m 4) x y (bit 0) (bit 4) (o .oneDoor) few (rw (door-again d) at w) in
     rw (o .setThere, door-again d, again .0, again .1, time-again (given (stands m 1) _))
   where
     few : digit 2 m 0 ≡ 1 → number 256 (take 2 s) < wideFrom

@@ -1,6 +1,7 @@
--- The steps of the calls: what the code reads of a record and writes into it, one number after another, is the definition.
+-- The steps of the calls: what the code reads of a record and writes into it, one number after another, is the definition, and so is what it
+-- asks.
 use Prim.Native.Nat.{ℕ, zero, suc, _+_, _-_, _*_, _/_, _^_, _<_, _≤_}
-use mathlib.Core.Bool.{Bool, _&&_}
+use mathlib.Core.Bool.{Bool, not, _&&_}
 use mathlib.Core.List.{List, [], _∷_, _++_, append-assoc}
 use mathlib.Core.Option.{Option, none, some, Option·getD, orElse}
 use mathlib.Core.Path.{_≡_, refl, sym, ap, _∙_}
@@ -24,7 +25,7 @@ use Rattle.records.specs.declared.Part.{Part}
 use Rattle.records.specs.Records.{fields, stands, headLength, given, wideFrom, shortDoor, wideDoor, bitsOf, laid, numbersIn}
 use Rattle.records.specs.Records.{doorOf, timeOf, headIn, isMap, readQuestions, doorOrZero}
 use Rattle.records.specs.Rooms.{Lays, WriteRoom}
-use Rattle.records.specs.Laws.Doors.{is-short, is-wide}
+use Rattle.records.specs.Laws.Doors.{is-short, is-wide, upper-half}
 
 -- a number whose bit b stands, and one whose bit does not
 pub there : (m k : ℕ) {b v x : ℕ} → b ≡ digit 2 m k → b ≡ 1 → v ≡ x → some v ≡ given (stands m k) x
@@ -95,7 +96,7 @@ head-steps s em eb ec eb′ ed et en =
 -- the tests of a map, by its bits
 pub map-tests :
     (m : ℕ) {b c d e : ℕ} → b ≡ digit 2 m 0 → c ≡ digit 2 m 4 → d ≡ digit 2 m 2 → e ≡ digit 2 m 3 →
-    ltb m 32 && leb (b + c) 1 && eqb d 1 && eqb e 1 ≡ isMap m
+    ltb m 32 && not (eqb b 1 && eqb c 1) && eqb d 1 && eqb e 1 ≡ isMap m
 map-tests m eb ec ed ee = rw (eb, ec, ed, ee)
 
 -- the questions of a reader, asked from the last to the first
@@ -105,31 +106,34 @@ pub read-asks :
     r3 ≡ ask (eqb size (h + p .ct)) 11 r2 → r4 ≡ ask (ltb 0 (p .l)) 1 r3 → r5 ≡ ask (ltb 0 set) 1 r4 → r6 ≡ ask (leb h size) 11 r5 →
     r7 ≡ ask t 10 r6 → r ≡ ask (ltb 0 size) 10 r7 → r ≡ earliest (readQuestions m (doorOrZero door) set size ct)
 unfolding earliest
-read-asks m set size ct door ep eh eb ed et e1 e2 e3 e4 e5 e6 e7 e = rw (e, e7, e6, e5, e4, e3, e2, e1, ep, eh, eb, ed, et)
+read-asks m set size ct door ep eh eb ed et e1 e2 e3 e4 e5 e6 e7 e =
+    let wide = upper-half (digit 2 m 4) (doorOrZero door) (mod-lt (m / 2 ^ 4) (omega arith)) in
+    rw (e, e7, e6, e5, e4, e3, e2, e1, ep, eh, eb, ed, et, wide)
 
--- how a door is written, and a missing one; w is 0 for a short one and 1 for a wide one
-abbrev Doors : Option ℕ → Option ℕ → Part → Type 0
-Doors a b = Lays ((0, 2) ∷ (4, 4) ∷ []) (a ∷ b ∷ [])
+-- how a door is written, a missing one and one that is there
+abbrev LaysDoor : Option ℕ → Option ℕ → Part → Type 0
+LaysDoor a b = Lays ((0, 2) ∷ (4, 4) ∷ []) (a ∷ b ∷ [])
 
 module _ {o : Option ℕ} where
-  pub lays-no-door : o ≡ none → Doors (shortDoor o) (wideDoor o) (record { bit = 0; size = 0; number = 0 })
+  pub lays-no-door : o ≡ none → LaysDoor (shortDoor o) (wideDoor o) (record { bit = 0; size = 0; number = 0 })
   unfolding digits bitsOf laid
   lays-no-door e = rw e (record { bit = refl; bitFew = omega arith; bytes = refl; few = omega arith })
 
+  -- w is 0 for a short one and 1 for a wide one
   pub lays-door :
       {x w : ℕ} → o ≡ some x → (x < wideFrom → w ≡ 0) → (wideFrom ≤ x → w ≡ 1) →
-      Doors (shortDoor o) (wideDoor o) (record { bit = 1 + 15 * w; size = 2 + 2 * w; number = x })
+      LaysDoor (shortDoor o) (wideDoor o) (record { bit = 1 + 15 * w; size = 2 + 2 * w; number = x })
   unfolding digits bitsOf laid
   lays-door {x} {w} e short wide = rw e (go (decLt x wideFrom))
     where
-      go : Dec (x < wideFrom) → Doors (shortDoor (some x)) (wideDoor (some x)) (record { bit = 1 + 15 * w; size = 2 + 2 * w; number = x })
+      go : Dec (x < wideFrom) → LaysDoor (shortDoor (some x)) (wideDoor (some x)) (record { bit = 1 + 15 * w; size = 2 + 2 * w; number = x })
       go (yes l) =
           let f = is-short x l in
           rw (f .0, f .1, short l) (record { bit = refl; bitFew = omega arith; bytes = refl; few = omega arith })
       go (no l) =
-          let m : wideFrom ≤ x = omega arith in
-          let f = is-wide x m in
-          rw (f .0, f .1, wide m) (record { bit = refl; bitFew = omega arith; bytes = refl; few = omega arith })
+          let g : wideFrom ≤ x = omega arith in
+          let f = is-wide x g in
+          rw (f .0, f .1, wide g) (record { bit = refl; bitFew = omega arith; bytes = refl; few = omega arith })
 
   -- and a time
   pub lays-no-time : o ≡ none → Lays ((1, 8) ∷ []) (o ∷ []) (record { bit = 0; size = 0; number = 0 })
