@@ -241,15 +241,17 @@ fn read_answer(map: u8, door: Door, set: u32, record: usize, ciphertext: usize) 
     let p = set_params(set);
     let head = head_length(map);
     let size = head + p.ct;
+    let is_set = 0 < p.l;
+    let is_wide = bit(map, 4) <= door_number(door) / 65536;
+    let has_map = is_map(map);
     let output = ask(ciphertext == p.ct, 9, 0);
-    let wide = ask(bit(map, 4) <= door_number(door) / 65536, 12, output);
+    let wide = ask(is_wide, 12, output);
     let total = ask(record == size, 11, wide);
-    let known = ask(0 < set, 1, ask(0 < p.l, 1, total));
-    ask(
-        0 < record,
-        10,
-        ask(is_map(map), 10, ask(head <= record, 11, known)),
-    )
+    let known = ask(is_set, 1, total);
+    let named = ask(0 < set, 1, known);
+    let reach = ask(head <= record, 11, named);
+    let mapped = ask(has_map, 10, reach);
+    ask(0 < record, 10, mapped)
 }
 
 // Reads a record: 10, 11, 1, 11, 12, 9. The ciphertext is copied out.

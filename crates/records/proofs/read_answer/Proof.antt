@@ -7,6 +7,18 @@ use Rattle.records.specs.Laws.Steps.{read-asks}
 use Rattle.records.proofs.read_answer.Statement.{statement}
 use Rattle.records.proofs.read_answer.Tie as tie
 
+-- the tests are made first, then the questions are asked
+returns : tie.Need-returns
+returns c =
+    let c2 = c .before .before .before .before .before .before in
+    let map = c2 .before .before .before in
+    let bit = map .before .before in
+    let head = bit .before .before .before in
+    read-asks _ _ _ _ _ (head .before .set-params .ensures) (head .head-length .ensures) (bit .bit .ensures) (map .before .door-number .ensures)
+    (map .is-map .ensures) (c2 .before .ask .ensures) (c2 .ask2 .ensures) (c .before .before .before .before .before .ask3 .ensures)
+    (c .before .before .before .before .ask4 .ensures) (c .before .before .before .ask5 .ensures) (c .before .before .ask6 .ensures)
+    (c .before .ask7 .ensures) (c .ask8 .ensures)
+
 pub read-answer-spec : {M : Type 1} → statement M
 read-answer-spec =
     tie.close
@@ -25,4 +37,4 @@ read-answer-spec =
     (λ c κs. search needs)
     (λ c κs. search needs)
     (λ c κs. search needs)
-    (λ c. search read-asks))
+    returns)

@@ -24,8 +24,11 @@ by-width P n s w none = n
 by-width P n s w (some x) = go (decLt x wideFrom)
   where
     go : Dec (x < wideFrom) → P (some x) (shortDoor (some x)) (wideDoor (some x))
-    go (yes h) = rw (lt-ltb x wideFrom h, lt-leb wideFrom x h) (s x h)
-    go (no h) = let l : wideFrom ≤ x = omega arith in rw (le-ltb x wideFrom l, le-leb wideFrom x l) (w x l)
+    go (yes h) = let f = is-short x h in rw (f .0, f .1) (s x h)
+    go (no h) =
+        let l : wideFrom ≤ x = omega arith in
+        let f = is-wide x l in
+        rw (f .0, f .1) (w x l)
 
 -- the one that is there is the door
 pub door-whole : (o : Option ℕ) → orElse (shortDoor o) (wideDoor o) ≡ o

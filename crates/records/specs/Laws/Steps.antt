@@ -23,7 +23,7 @@ use Rattle.records.specs.declared.Door.{Door}
 use Rattle.records.specs.declared.Time.{Time}
 use Rattle.records.specs.declared.Part.{Part}
 use Rattle.records.specs.Records.{fields, stands, headLength, given, wideFrom, shortDoor, wideDoor, bitsOf, laid, numbersIn}
-use Rattle.records.specs.Records.{doorOf, timeOf, headIn, isMap, readQuestions, doorOrZero}
+use Rattle.records.specs.Records.{doorOf, timeOf, headIn, isMap, readQuestions}
 use Rattle.records.specs.Rooms.{Lays, WriteRoom}
 use Rattle.records.specs.Laws.Doors.{is-short, is-wide, upper-half}
 
@@ -101,13 +101,13 @@ map-tests m eb ec ed ee = rw (eb, ec, ed, ee)
 
 -- the questions of a reader, asked from the last to the first
 pub read-asks :
-    (m set size ct : ℕ) (door : Door) {p : Params} {h b d r1 r2 r3 r4 r5 r6 r7 r : ℕ} {t : Bool} → p ≡ paramsOf set → h ≡ headLength m →
-    b ≡ digit 2 m 4 → d ≡ doorOrZero door → t ≡ isMap m → r1 ≡ ask (eqb ct (p .ct)) 9 0 → r2 ≡ ask (leb b (d / wideFrom)) 12 r1 →
+    (m set size ct door : ℕ) {p : Params} {h b d r1 r2 r3 r4 r5 r6 r7 r : ℕ} {t : Bool} → p ≡ paramsOf set → h ≡ headLength m →
+    b ≡ digit 2 m 4 → d ≡ door → t ≡ isMap m → r1 ≡ ask (eqb ct (p .ct)) 9 0 → r2 ≡ ask (leb b (d / wideFrom)) 12 r1 →
     r3 ≡ ask (eqb size (h + p .ct)) 11 r2 → r4 ≡ ask (ltb 0 (p .l)) 1 r3 → r5 ≡ ask (ltb 0 set) 1 r4 → r6 ≡ ask (leb h size) 11 r5 →
-    r7 ≡ ask t 10 r6 → r ≡ ask (ltb 0 size) 10 r7 → r ≡ earliest (readQuestions m (doorOrZero door) set size ct)
+    r7 ≡ ask t 10 r6 → r ≡ ask (ltb 0 size) 10 r7 → r ≡ earliest (readQuestions m door set size ct)
 unfolding earliest
 read-asks m set size ct door ep eh eb ed et e1 e2 e3 e4 e5 e6 e7 e =
-    let wide = upper-half (digit 2 m 4) (doorOrZero door) (mod-lt (m / 2 ^ 4) (omega arith)) in
+    let wide = upper-half (digit 2 m 4) door (mod-lt (m / 2 ^ 4) (omega arith)) in
     rw (e, e7, e6, e5, e4, e3, e2, e1, ep, eh, eb, ed, et, wide)
 
 -- how a door is written, a missing one and one that is there
