@@ -17,9 +17,12 @@ pub fn keygen_answer(
     ensures { λ r. ⌜ r ≡ earliest (keygenQuestions set «matrix_seed» «secret_seed» z «public_key» «secret_key») ⌝ }
 {
     let p = set_params(set);
-    let q9 = ask(public_key == p.pk, 9, ask(secret_key == p.sk, 9, 0));
+    let is_set = 0 < p.l;
+    let public_fits = public_key == p.pk;
+    let secret_fits = secret_key == p.sk;
+    let q9 = ask(public_fits, 9, ask(secret_fits, 9, 0));
     let q3 = ask(secret_seed == 32, 3, ask(z == 32, 3, q9));
-    ask(0 < p.l, 1, ask(matrix_seed == 32, 3, q3))
+    ask(is_set, 1, ask(matrix_seed == 32, 3, q3))
 }
 
 // Encapsulation: Q1, Q3, Q4, Q9.
@@ -33,12 +36,11 @@ pub fn encaps_answer(
     ensures { λ r. ⌜ r ≡ earliest (encapsQuestions set «public_key» seed ciphertext «shared_secret») ⌝ }
 {
     let p = set_params(set);
-    let q9 = ask(ciphertext == p.ct, 9, ask(shared_secret == 32, 9, 0));
-    ask(
-        0 < p.l,
-        1,
-        ask(seed == 32, 3, ask(public_key == p.pk, 4, q9)),
-    )
+    let is_set = 0 < p.l;
+    let is_public_key = public_key == p.pk;
+    let ciphertext_fits = ciphertext == p.ct;
+    let q9 = ask(ciphertext_fits, 9, ask(shared_secret == 32, 9, 0));
+    ask(is_set, 1, ask(seed == 32, 3, ask(is_public_key, 4, q9)))
 }
 
 // Decapsulation: Q1, Q5, Q6, Q9.
@@ -46,8 +48,11 @@ pub fn decaps_answer(set: u32, secret_key: usize, ciphertext: usize, shared_secr
     ensures { λ r. ⌜ r ≡ earliest (decapsQuestions set «secret_key» ciphertext «shared_secret») ⌝ }
 {
     let p = set_params(set);
-    let q6 = ask(ciphertext == p.ct, 6, ask(shared_secret == 32, 9, 0));
-    ask(0 < p.l, 1, ask(secret_key == p.sk, 5, q6))
+    let is_set = 0 < p.l;
+    let is_secret_key = secret_key == p.sk;
+    let is_ciphertext = ciphertext == p.ct;
+    let q6 = ask(is_ciphertext, 6, ask(shared_secret == 32, 9, 0));
+    ask(is_set, 1, ask(is_secret_key, 5, q6))
 }
 
 // Encryption: Q1, Q3, Q4, Q9.
@@ -61,8 +66,11 @@ pub fn encrypt_answer(
     ensures { λ r. ⌜ r ≡ earliest (encryptQuestions set «public_key» message seed ciphertext) ⌝ }
 {
     let p = set_params(set);
-    let q4 = ask(public_key == p.pk, 4, ask(ciphertext == p.ct, 9, 0));
-    ask(0 < p.l, 1, ask(message == 32, 3, ask(seed == 32, 3, q4)))
+    let is_set = 0 < p.l;
+    let is_public_key = public_key == p.pk;
+    let ciphertext_fits = ciphertext == p.ct;
+    let q4 = ask(is_public_key, 4, ask(ciphertext_fits, 9, 0));
+    ask(is_set, 1, ask(message == 32, 3, ask(seed == 32, 3, q4)))
 }
 
 // Decryption: Q1, Q5, Q6, Q9.
@@ -70,6 +78,9 @@ pub fn decrypt_answer(set: u32, plain_secret: usize, ciphertext: usize, message:
     ensures { λ r. ⌜ r ≡ earliest (decryptQuestions set «plain_secret» ciphertext message) ⌝ }
 {
     let p = set_params(set);
-    let q6 = ask(ciphertext == p.ct, 6, ask(message == 32, 9, 0));
-    ask(0 < p.l, 1, ask(plain_secret == 416 * p.l, 5, q6))
+    let is_set = 0 < p.l;
+    let is_secret = plain_secret == 416 * p.l;
+    let is_ciphertext = ciphertext == p.ct;
+    let q6 = ask(is_ciphertext, 6, ask(message == 32, 9, 0));
+    ask(is_set, 1, ask(is_secret, 5, q6))
 }

@@ -107,7 +107,9 @@ pub fn lookup_answer(set: u32, secret_key: usize) -> u8
     ensures { λ r. ⌜ r ≡ earliest (lookupQuestions set «secret_key») ⌝ }
 {
     let p = set_params(set);
-    ask(0 < p.l, 1, ask(secret_key == p.sk, 5, 0))
+    let is_set = 0 < p.l;
+    let is_secret_key = secret_key == p.sk;
+    ask(is_set, 1, ask(is_secret_key, 5, 0))
 }
 
 // The public key inside a secret key, as a part of it; an empty part where the set is unknown or the length is not the set's.

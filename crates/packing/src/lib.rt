@@ -109,25 +109,30 @@ fn is_width(width: u32) -> bool
         | ((width == 3) | ((width == 4) | ((width == 6) | ((width == 10) | (width == 13)))))
 }
 
-// The answer of `pack`. Where Q2 says no, the bound of Q8 does not matter: the shift is made one that a u32 has.
+// The answer of `pack`. The coefficients are read where width and count are right.
 fn pack_answer(width: u32, coefficients: &[u16], bytes: usize) -> u8
     ensures { λ r. ⌜ r ≡ earliest (packQuestions width (now (coefficients .entry)) bytes) ⌝ }
 {
-    let q2 = is_width(width);
-    let q7 = coefficients.len() == 256;
-    let q8 = all_below(1u32 << (width % 32), coefficients);
-    let q9 = bytes == 32 * (width as usize);
-    ask(q2, 2, ask(q7, 7, ask(q8, 8, ask(q9, 9, 0))))
+    let known = is_width(width);
+    let r = ask(known, 2, ask(coefficients.len() == 256, 7, 0));
+    if r != 0 {
+        return r;
+    }
+    let below = all_below(1u32 << width, coefficients);
+    ask(below, 8, ask(bytes == 32 * (width as usize), 9, 0))
 }
 
 // The answer of `unpack`.
 fn unpack_answer(width: u32, bytes: usize, coefficients: usize) -> u8
     ensures { λ r. ⌜ r ≡ earliest (unpackQuestions width bytes coefficients) ⌝ }
 {
-    let q2 = is_width(width);
-    let q7 = bytes == 32 * (width as usize);
-    let q9 = coefficients == 256;
-    ask(q2, 2, ask(q7, 7, ask(q9, 9, 0)))
+    let known = is_width(width);
+    let size = 32 * (width as usize);
+    ask(
+        known,
+        2,
+        ask(bytes == size, 7, ask(coefficients == 256, 9, 0)),
+    )
 }
 
 // Packs a polynomial: Q2, Q7, Q8, Q9.

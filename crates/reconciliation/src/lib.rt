@@ -60,23 +60,38 @@ pub fn recover_into(g: u16, added: u16, v: &[u16], data: &[u16], bits: &mut [u16
     }
 }
 
+// The answer of `recon_data`. The coefficients are read where set and count are right.
 fn recon_data_answer(set: u32, w: &[u16], data: usize) -> u8
     ensures { λ r. ⌜ r ≡ earliest (reconDataQuestions set (now (w .entry)) «data») ⌝ }
 {
     let p = set_params(set);
-    let q8 = ask(all_below(1024, w), 8, ask(data == 256, 9, 0));
-    ask(0 < p.l, 1, ask(w.len() == 256, 7, q8))
+    let is_set = 0 < p.l;
+    let r = ask(is_set, 1, ask(w.len() == 256, 7, 0));
+    if r != 0 {
+        return r;
+    }
+    let below = all_below(1024, w);
+    ask(below, 8, ask(data == 256, 9, 0))
 }
 
-// The bound of data, 1024 / g, is 2 t.
+// The answer of `recover`, in the same way. The bound of data, 1024 / g, is 2 t.
 fn recover_answer(set: u32, v: &[u16], data: &[u16], bits: usize) -> u8
     ensures { λ r. ⌜ r ≡ earliest (recoverQuestions set (now (v .entry)) (now («data» .entry)) bits) ⌝ }
 {
     let p = set_params(set);
+    let is_set = 0 < p.l;
     let bound = 2 * p.t as u32;
-    let q8 = ask(all_below(bound, data), 8, ask(bits == 256, 9, 0));
-    let q7 = ask(data.len() == 256, 7, ask(all_below(1024, v), 8, q8));
-    ask(0 < p.l, 1, ask(v.len() == 256, 7, q7))
+    let r = ask(
+        is_set,
+        1,
+        ask(v.len() == 256, 7, ask(data.len() == 256, 7, 0)),
+    );
+    if r != 0 {
+        return r;
+    }
+    let v_below = all_below(1024, v);
+    let data_below = all_below(bound, data);
+    ask(v_below, 8, ask(data_below, 8, ask(bits == 256, 9, 0)))
 }
 
 // Reconciliation data of a polynomial: Q1, Q7, Q8, Q9.

@@ -105,12 +105,11 @@ fn write_answer(map: u8, set: u32, ciphertext: usize, record: usize) -> u8
     ensures { λ r. ⌜ r ≡ earliest (writeQuestions map set ciphertext «record») ⌝ }
 {
     let p = set_params(set);
-    let size = head_length(map) + p.ct;
-    ask(
-        0 < p.l,
-        1,
-        ask(ciphertext == p.ct, 6, ask(record == size, 9, 0)),
-    )
+    let head = head_length(map);
+    let size = head + p.ct;
+    let is_set = 0 < p.l;
+    let is_ciphertext = ciphertext == p.ct;
+    ask(is_set, 1, ask(is_ciphertext, 6, ask(record == size, 9, 0)))
 }
 
 // Writes the map, the numbers and the ciphertext, one behind the other.
@@ -242,9 +241,10 @@ fn read_answer(map: u8, door: Door, set: u32, record: usize, ciphertext: usize) 
     let head = head_length(map);
     let size = head + p.ct;
     let is_set = 0 < p.l;
+    let ciphertext_fits = ciphertext == p.ct;
     let is_wide = bit(map, 4) <= door_number(door) / 65536;
     let has_map = is_map(map);
-    let output = ask(ciphertext == p.ct, 9, 0);
+    let output = ask(ciphertext_fits, 9, 0);
     let wide = ask(is_wide, 12, output);
     let total = ask(record == size, 11, wide);
     let known = ask(is_set, 1, total);

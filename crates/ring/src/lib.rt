@@ -91,21 +91,18 @@ pub fn reduce(m: u16, out: &mut [u16])
     }
 }
 
-// The answer of a ring product.
+// The answer of a ring product. The coefficients are read where modulus and counts are right.
 pub fn mul_answer(modulus: u32, a: &[u16], b: &[u16], output: usize) -> u8
     ensures { λ r. ⌜ r ≡ earliest (mulQuestions modulus (now (a .entry)) (now (b .entry)) output) ⌝ }
 {
-    let q2 = (modulus == 1024) | (modulus == 8192);
-    let a7 = a.len() == 256;
-    let b7 = b.len() == 256;
-    let a8 = all_below(modulus, a);
-    let b8 = all_below(modulus, b);
-    let q9 = output == 256;
-    ask(
-        q2,
-        2,
-        ask(a7, 7, ask(b7, 7, ask(a8, 8, ask(b8, 8, ask(q9, 9, 0))))),
-    )
+    let known = (modulus == 1024) | (modulus == 8192);
+    let r = ask(known, 2, ask(a.len() == 256, 7, ask(b.len() == 256, 7, 0)));
+    if r != 0 {
+        return r;
+    }
+    let a_below = all_below(modulus, a);
+    let b_below = all_below(modulus, b);
+    ask(a_below, 8, ask(b_below, 8, ask(output == 256, 9, 0)))
 }
 
 // The ring product: Q2, Q7, Q8, Q9.

@@ -28,14 +28,16 @@ pub fn round_into(x: &[u16], rounded: &mut [u16])
     }
 }
 
-// The answer of `round`.
+// The answer of `round`. The coefficients are read where their count is right.
 fn round_answer(x: &[u16], output: usize) -> u8
     ensures { λ r. ⌜ r ≡ earliest (roundQuestions (now (x .entry)) output) ⌝ }
 {
-    let q7 = x.len() == 256;
-    let q8 = all_below(8192, x);
-    let q9 = output == 256;
-    ask(q7, 7, ask(q8, 8, ask(q9, 9, 0)))
+    let r = ask(x.len() == 256, 7, 0);
+    if r != 0 {
+        return r;
+    }
+    let below = all_below(8192, x);
+    ask(below, 8, ask(output == 256, 9, 0))
 }
 
 // Rounding of one polynomial: Q7, Q8, Q9.

@@ -104,16 +104,18 @@ fn gen_matrix_answer(set: u32, seed: usize, matrix: usize) -> u8
     ensures { λ r. ⌜ r ≡ earliest (genMatrixQuestions set seed matrix) ⌝ }
 {
     let p = set_params(set);
+    let is_set = 0 < p.l;
     let n = 256 * p.l * p.l;
-    ask(0 < p.l, 1, ask(seed == 32, 3, ask(matrix == n, 9, 0)))
+    ask(is_set, 1, ask(seed == 32, 3, ask(matrix == n, 9, 0)))
 }
 
 fn gen_secret_answer(set: u32, seed: usize, secret: usize) -> u8
     ensures { λ r. ⌜ r ≡ earliest (genSecretQuestions set seed secret) ⌝ }
 {
     let p = set_params(set);
+    let is_set = 0 < p.l;
     let n = 256 * p.l;
-    ask(0 < p.l, 1, ask(seed == 32, 3, ask(secret == n, 9, 0)))
+    ask(is_set, 1, ask(seed == 32, 3, ask(secret == n, 9, 0)))
 }
 
 // The matrix from its seed: Q1, Q3, Q9.

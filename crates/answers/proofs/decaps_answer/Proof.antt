@@ -1,11 +1,29 @@
 -- `answers::decaps_answer` meets its contract: it asks the questions of the definition.
+use mathlib.Core.Path.{refl}
 use borrow.Author.Needs.{needs}
-use Rattle.questions.specs.Answers.{earliest}
+use lib.Dec.{eqb, ltb}
+use Rattle.questions.specs.Laws.Answers.{asked, made-of}
+use Rattle.questions.specs.Laws.Answers.Asked.{asks, none}
+use Rattle.sets.specs.declared.Params.{Params}
+use Rattle.answers.specs.Questions.{decapsQuestions}
 use Rattle.answers.proofs.decaps_answer.Statement.{statement}
 use Rattle.answers.proofs.decaps_answer.Tie as tie
 
+abbrev row-of : tie.After-ask → tie.After-set-params
+row-of c = c .before .before .before .before
+
+returns : tie.Need-returns
+returns c =
+    let row = row-of (c .before .before .before) in
+    let a = row .before .args in
+    let p = row .set-params .ensures in
+    asked (decapsQuestions (a .set) (a .«secret-key») (a .ciphertext) (a .«shared-secret»))
+    (asks (made-of (λ (p : Params). ltb 0 (p .l)) p (c .ask4 .ensures) refl)
+    (asks (made-of (λ (p : Params). eqb (a .«secret-key») (p .sk)) p (c .before .ask3 .ensures) refl)
+    (asks (made-of (λ (p : Params). eqb (a .ciphertext) (p .ct)) p (c .before .before .ask2 .ensures) refl)
+    (asks (c .before .before .before .ask .ensures) none))))
+
 pub decaps-answer-spec : {M : Type 1} → statement M
-unfolding earliest
 decaps-answer-spec =
     tie.close
     (tie.spec
@@ -14,4 +32,4 @@ decaps-answer-spec =
     (λ c κs. search needs)
     (λ c κs. search needs)
     (λ c κs. search needs)
-    (λ c. cc))
+    returns)

@@ -1,11 +1,31 @@
 -- `answers::encrypt_answer` meets its contract: it asks the questions of the definition.
+use mathlib.Core.Path.{refl}
 use borrow.Author.Needs.{needs}
-use Rattle.questions.specs.Answers.{earliest}
+use lib.Dec.{eqb, ltb}
+use Rattle.questions.specs.Laws.Answers.{asked, made-of}
+use Rattle.questions.specs.Laws.Answers.Asked.{asks, none}
+use Rattle.sets.specs.declared.Params.{Params}
+use Rattle.answers.specs.Questions.{encryptQuestions}
 use Rattle.answers.proofs.encrypt_answer.Statement.{statement}
 use Rattle.answers.proofs.encrypt_answer.Tie as tie
 
+abbrev row-of : tie.After-ask → tie.After-set-params
+row-of c = c .before .before .before .before
+
+returns : tie.Need-returns
+returns c =
+    let c2 = c .before .before .before in
+    let row = row-of (c2 .before) in
+    let a = row .before .args in
+    let p = row .set-params .ensures in
+    asked (encryptQuestions (a .set) (a .«public-key») (a .message) (a .seed) (a .ciphertext))
+    (asks (made-of (λ (p : Params). ltb 0 (p .l)) p (c .ask5 .ensures) refl)
+    (asks (c .before .ask4 .ensures)
+    (asks (c .before .before .ask3 .ensures)
+    (asks (made-of (λ (p : Params). eqb (a .«public-key») (p .pk)) p (c .before .before .before .ask2 .ensures) refl)
+    (asks (made-of (λ (p : Params). eqb (a .ciphertext) (p .ct)) p (c2 .before .ask .ensures) refl) none)))))
+
 pub encrypt-answer-spec : {M : Type 1} → statement M
-unfolding earliest
 encrypt-answer-spec =
     tie.close
     (tie.spec
@@ -15,4 +35,4 @@ encrypt-answer-spec =
     (λ c κs. search needs)
     (λ c κs. search needs)
     (λ c κs. search needs)
-    (λ c. cc))
+    returns)

@@ -1,11 +1,32 @@
 -- `answers::keygen_answer` meets its contract: it asks the questions of the definition.
+use mathlib.Core.Path.{refl}
 use borrow.Author.Needs.{needs}
-use Rattle.questions.specs.Answers.{earliest}
+use lib.Dec.{eqb, ltb}
+use Rattle.questions.specs.Laws.Answers.{asked, made-of}
+use Rattle.questions.specs.Laws.Answers.Asked.{asks, none}
+use Rattle.sets.specs.declared.Params.{Params}
+use Rattle.answers.specs.Questions.{keygenQuestions}
 use Rattle.answers.proofs.keygen_answer.Statement.{statement}
 use Rattle.answers.proofs.keygen_answer.Tie as tie
 
+abbrev row-of : tie.After-ask → tie.After-set-params
+row-of c = c .before .before .before .before
+
+returns : tie.Need-returns
+returns c =
+    let c3 = c .before .before .before in
+    let row = row-of (c3 .before .before) in
+    let a = row .before .args in
+    let p = row .set-params .ensures in
+    asked (keygenQuestions (a .set) (a .«matrix-seed») (a .«secret-seed») (a .z) (a .«public-key») (a .«secret-key»))
+    (asks (made-of (λ (p : Params). ltb 0 (p .l)) p (c .ask6 .ensures) refl)
+    (asks (c .before .ask5 .ensures)
+    (asks (c .before .before .ask4 .ensures)
+    (asks (c .before .before .before .ask3 .ensures)
+    (asks (made-of (λ (p : Params). eqb (a .«public-key») (p .pk)) p (c3 .before .ask2 .ensures) refl)
+    (asks (made-of (λ (p : Params). eqb (a .«secret-key») (p .sk)) p (c3 .before .before .ask .ensures) refl) none))))))
+
 pub keygen-answer-spec : {M : Type 1} → statement M
-unfolding earliest
 keygen-answer-spec =
     tie.close
     (tie.spec
@@ -16,4 +37,4 @@ keygen-answer-spec =
     (λ c κs. search needs)
     (λ c κs. search needs)
     (λ c κs. search needs)
-    (λ c. cc))
+    returns)

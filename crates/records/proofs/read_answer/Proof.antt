@@ -1,23 +1,49 @@
 -- `records::read_answer` meets its contract: it asks the questions of the definition, and the lengths are small enough to be added.
+use Prim.Native.Nat.{ℕ, _+_, _/_, _^_}
+use mathlib.Core.Bool.{Bool}
+use mathlib.Core.Path.{refl}
+use native.Mathlib.Nat.{mod-lt}
 use native.Mathlib.Omega.{arith}
 use borrow.Author.Needs.{needs}
+use lib.Dec.{eqb, ltb, leb}
+use Rattle.lists.specs.Numbers.{digit}
+use Rattle.questions.specs.Laws.Answers.{asked, made-of}
+use Rattle.questions.specs.Laws.Answers.Asked.{asks, none}
+use Rattle.sets.specs.declared.Params.{Params}
+use Rattle.sets.specs.Sets.{paramsOf}
 use Rattle.sets.specs.Laws.Rows.{few-bytes}
+use Rattle.records.specs.Records.{doorOrZero, readQuestions}
+use Rattle.records.specs.Laws.Doors.{upper-half}
 use Rattle.records.specs.Laws.Fields.{head-few}
-use Rattle.records.specs.Laws.Steps.{read-asks}
 use Rattle.records.proofs.read_answer.Statement.{statement}
 use Rattle.records.proofs.read_answer.Tie as tie
+
+abbrev head-of : tie.After-bit → tie.After-head-length
+head-of c = c .before .before .before .before
 
 -- the tests are made first, then the questions are asked
 returns : tie.Need-returns
 returns c =
-    let c2 = c .before .before .before .before .before .before in
-    let map = c2 .before .before .before in
+    let c4 = c .before .before .before .before in
+    let map = c4 .before .before .before .before in
     let bit = map .before .before in
-    let head = bit .before .before .before in
-    read-asks _ _ _ _ _ (head .before .set-params .ensures) (head .head-length .ensures) (bit .bit .ensures) (map .before .door-number .ensures)
-    (map .is-map .ensures) (c2 .before .ask .ensures) (c2 .ask2 .ensures) (c .before .before .before .before .before .ask3 .ensures)
-    (c .before .before .before .before .ask4 .ensures) (c .before .before .before .ask5 .ensures) (c .before .before .ask6 .ensures)
-    (c .before .ask7 .ensures) (c .ask8 .ensures)
+    let head = head-of bit in
+    let row = head .before in
+    let a = row .before .args in
+    let door = doorOrZero (a .door) in
+    asked (readQuestions (a .map) door (a .set) (a .«record») (a .ciphertext))
+    (asks (c .ask8 .ensures)
+    (asks (made-of (λ (b : Bool). b) (map .is-map .ensures) (c .before .ask7 .ensures) refl)
+    (asks (made-of (λ (h : ℕ). leb h (a .«record»)) (head .head-length .ensures) (c .before .before .ask6 .ensures) refl)
+    (asks (c .before .before .before .ask5 .ensures)
+    (asks (made-of (λ (p : Params). ltb 0 (p .l)) (row .set-params .ensures) (c4 .ask4 .ensures) refl)
+    (asks (made-of (λ (h : ℕ). eqb (a .«record») (h + paramsOf (a .set) .ct)) (head .head-length .ensures)
+    (made-of (λ (p : Params). eqb (a .«record») (head .head-length .result + p .ct)) (row .set-params .ensures) (c4 .before .ask3 .ensures) refl) refl)
+    (asks (made-of (λ (b : Bool). b) (upper-half (digit 2 (a .map) 4) door (mod-lt (a .map / 2 ^ 4) (omega arith)))
+    (made-of (λ (b : ℕ). leb b (door / 65536)) (bit .bit .ensures)
+    (made-of (λ (d : ℕ). leb (bit .bit .result) (d / 65536)) (map .before .door-number .ensures) (c4 .before .before .ask2 .ensures) refl) refl) refl)
+    (asks (made-of (λ (p : Params). eqb (a .ciphertext) (p .ct)) (row .set-params .ensures) (c4 .before .before .before .ask .ensures) refl)
+    none))))))))
 
 pub read-answer-spec : {M : Type 1} → statement M
 read-answer-spec =

@@ -1,14 +1,14 @@
 -- The steps of the calls: what the code reads of a record and writes into it, one number after another, is the definition, and so is what it
 -- asks.
-use Prim.Native.Nat.{ℕ, zero, suc, _+_, _-_, _*_, _/_, _^_, _<_, _≤_}
-use mathlib.Core.Bool.{Bool, not, _&&_}
+use Prim.Native.Nat.{ℕ, zero, suc, _+_, _-_, _*_, _^_, _<_, _≤_}
+use mathlib.Core.Bool.{not, _&&_}
 use mathlib.Core.List.{List, [], _∷_, _++_, append-assoc}
 use mathlib.Core.Option.{Option, none, some, Option·getD, orElse}
 use mathlib.Core.Path.{_≡_, refl, sym, ap, _∙_}
 use native.Mathlib.Nat.{pow-le-pow-right, one-le-pow, lt-of-lt-of-le, min-le-left, mod-lt}
 use native.Mathlib.Decide.{decLt}
 use native.Mathlib.Omega.{arith}
-use lib.Dec.{eqb, ltb, leb}
+use lib.Dec.{eqb, ltb}
 use lib.ListN.{length, getD, take, drop, length-take, length-drop, drop-of-length-le}
 use lib.Seq.{drop-drop, take-all, take-nil}
 use borrow.Author.Tests.{eq-eqb, ne-eqb}
@@ -16,16 +16,13 @@ use Rattle.lists.specs.Numbers.{number, digits, digit}
 use Rattle.lists.specs.Strings.{placed}
 use Rattle.lists.specs.Laws.Numbers.{length-digits}
 use Rattle.lists.specs.Laws.Parts.{last-part, prefix-none, prefix-copy, prefix-all}
-use Rattle.questions.specs.Answers.{ask, earliest}
-use Rattle.sets.specs.declared.Params.{Params}
-use Rattle.sets.specs.Sets.{paramsOf}
 use Rattle.records.specs.declared.Door.{Door}
 use Rattle.records.specs.declared.Time.{Time}
 use Rattle.records.specs.declared.Part.{Part}
-use Rattle.records.specs.Records.{fields, stands, headLength, given, wideFrom, shortDoor, wideDoor, bitsOf, laid, numbersIn}
-use Rattle.records.specs.Records.{doorOf, timeOf, headIn, isMap, readQuestions}
+use Rattle.records.specs.Records.{fields, stands, given, wideFrom, shortDoor, wideDoor, bitsOf, laid, numbersIn}
+use Rattle.records.specs.Records.{doorOf, timeOf, headIn, isMap}
 use Rattle.records.specs.Rooms.{Lays, WriteRoom}
-use Rattle.records.specs.Laws.Doors.{is-short, is-wide, upper-half}
+use Rattle.records.specs.Laws.Doors.{is-short, is-wide}
 
 -- a number whose bit b stands, and one whose bit does not
 pub there : (m k : ℕ) {b v x : ℕ} → b ≡ digit 2 m k → b ≡ 1 → v ≡ x → some v ≡ given (stands m k) x
@@ -98,17 +95,6 @@ pub map-tests :
     (m : ℕ) {b c d e : ℕ} → b ≡ digit 2 m 0 → c ≡ digit 2 m 4 → d ≡ digit 2 m 2 → e ≡ digit 2 m 3 →
     ltb m 32 && not (eqb b 1 && eqb c 1) && eqb d 1 && eqb e 1 ≡ isMap m
 map-tests m eb ec ed ee = rw (eb, ec, ed, ee)
-
--- the questions of a reader, asked from the last to the first
-pub read-asks :
-    (m set size ct door : ℕ) {p : Params} {h b d r1 r2 r3 r4 r5 r6 r7 r : ℕ} {t : Bool} → p ≡ paramsOf set → h ≡ headLength m →
-    b ≡ digit 2 m 4 → d ≡ door → t ≡ isMap m → r1 ≡ ask (eqb ct (p .ct)) 9 0 → r2 ≡ ask (leb b (d / wideFrom)) 12 r1 →
-    r3 ≡ ask (eqb size (h + p .ct)) 11 r2 → r4 ≡ ask (ltb 0 (p .l)) 1 r3 → r5 ≡ ask (ltb 0 set) 1 r4 → r6 ≡ ask (leb h size) 11 r5 →
-    r7 ≡ ask t 10 r6 → r ≡ ask (ltb 0 size) 10 r7 → r ≡ earliest (readQuestions m door set size ct)
-unfolding earliest
-read-asks m set size ct door ep eh eb ed et e1 e2 e3 e4 e5 e6 e7 e =
-    let wide = upper-half (digit 2 m 4) door (mod-lt (m / 2 ^ 4) (omega arith)) in
-    rw (e, e7, e6, e5, e4, e3, e2, e1, ep, eh, eb, ed, et, wide)
 
 -- how a door is written, a missing one and one that is there
 abbrev LaysDoor : Option ℕ → Option ℕ → Part → Type 0

@@ -1,20 +1,42 @@
--- `ring::mul_answer` meets its contract: it asks the questions of the definition.
+-- `ring::mul_answer` meets its contract: it asks the questions of the definition, the first three by themselves.
+use mathlib.Core.Bool.{Bool}
+use mathlib.Core.List.{List}
+use mathlib.Core.Path.{refl}
 use borrow.Author.Needs.{needs}
-use Rattle.questions.specs.Answers.{earliest}
+use lib.ListN.{take}
+use Rattle.questions.specs.Answers.{Question}
+use Rattle.questions.specs.Laws.Answers.{Asked, made-of, stops, goes-on}
+use Rattle.questions.specs.Laws.Answers.Asked.{asks, none}
+use Rattle.ring.specs.Products.{mulQuestions}
 use Rattle.ring.proofs.mul_answer.Statement.{statement}
 use Rattle.ring.proofs.mul_answer.Tie as tie
 
+abbrev questions : tie.After-ask3 → List Question
+questions c = let a = c .before .before .before .before .before .args in mulQuestions (a .modulus) (a .a .now) (a .b .now) (a .output)
+
+first : (c : tie.After-ask3) → Asked (take 3 (questions c)) (c .ask3 .result)
+first c = asks (c .ask3 .ensures) (asks (c .before .ask2 .ensures) (asks (c .before .before .ask .ensures) none))
+
+returns-2 : tie.Need-returns-2
+returns-2 c =
+    let below = c .before .before .before in
+    let early = below .before .before .before in
+    goes-on 3 (questions early) (first early) refl (below .before .before .if1 .left)
+    (asks (made-of (λ (b : Bool). b) (below .before .all-below .ensures) (c .ask6 .ensures) refl)
+    (asks (made-of (λ (b : Bool). b) (below .all-below2 .ensures) (c .before .ask5 .ensures) refl)
+    (asks (c .before .before .ask4 .ensures) none)))
+
 pub mul-answer-spec : {M : Type 1} → statement M
-unfolding earliest
 mul-answer-spec =
     tie.close
     (tie.spec
     (λ c κs. search needs)
     (λ c κs. search needs)
     (λ c κs. search needs)
+    (λ c. stops 3 (questions (c .before)) (first (c .before)) (c .if1 .taken))
     (λ c κs. search needs)
     (λ c κs. search needs)
     (λ c κs. search needs)
     (λ c κs. search needs)
     (λ c κs. search needs)
-    (λ c. cc))
+    returns-2)

@@ -1,11 +1,37 @@
--- `rounding::round_answer` meets its contract: it asks the questions of the definition.
+-- `rounding::round_answer` meets its contract: it asks the questions of the definition, the first one by itself.
+use mathlib.Core.Bool.{Bool}
+use mathlib.Core.List.{List}
+use mathlib.Core.Path.{refl}
 use borrow.Author.Needs.{needs}
-use Rattle.questions.specs.Answers.{earliest}
+use lib.ListN.{take}
+use Rattle.questions.specs.Answers.{Question}
+use Rattle.questions.specs.Laws.Answers.{Asked, made-of, stops, goes-on}
+use Rattle.questions.specs.Laws.Answers.Asked.{asks, none}
+use Rattle.rounding.specs.Rounding.{roundQuestions}
 use Rattle.rounding.proofs.round_answer.Statement.{statement}
 use Rattle.rounding.proofs.round_answer.Tie as tie
 
+abbrev questions : tie.After-ask → List Question
+questions c = let a = c .before .before .args in roundQuestions (a .x .now) (a .output)
+
+first : (c : tie.After-ask) → Asked (take 1 (questions c)) (c .ask .result)
+first c = asks (c .ask .ensures) none
+
+returns-2 : tie.Need-returns-2
+returns-2 c =
+    let below = c .before .before in
+    let early = below .before .before in
+    goes-on 1 (questions early) (first early) refl (below .before .if1 .left)
+    (asks (made-of (λ (b : Bool). b) (below .all-below .ensures) (c .ask3 .ensures) refl)
+    (asks (c .before .ask2 .ensures) none))
+
 pub round-answer-spec : {M : Type 1} → statement M
-unfolding earliest
 round-answer-spec =
     tie.close
-    (tie.spec (λ c κs. search needs) (λ c κs. search needs) (λ c κs. search needs) (λ c κs. search needs) (λ c. cc))
+    (tie.spec
+    (λ c κs. search needs)
+    (λ c. stops 1 (questions (c .before)) (first (c .before)) (c .if1 .taken))
+    (λ c κs. search needs)
+    (λ c κs. search needs)
+    (λ c κs. search needs)
+    returns-2)
