@@ -21,7 +21,7 @@ pub record Appends (acc held x : ℕ) : Type 0 where
 -- a polynomial of w bits a coefficient, 1 to 16, goes to `place` of `out` bytes
 pub record PlaceRoom (w coefficients place out : ℕ) : Type 0 where
   pub least : 1 ≤ w
-  pub most : w ≤ 16
+  pub widest : w ≤ 16
   pub polynomial : coefficients ≡ 256
   pub room : place + 32 * w ≤ out
 

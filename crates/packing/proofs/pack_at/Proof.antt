@@ -12,7 +12,7 @@ use Rattle.packing.proofs.pack_at.Tie as tie
 pack-into-requires : tie.Need-pack-into-requires
 pack-into-requires c κs =
     let room = c .before .before .before .pre in
-    polynomials-fill _ 1 _ _ (room .least) (room .most) (omega (arith, room .polynomial))
+    polynomials-fill _ 1 _ _ (room .least) (room .widest) (omega (arith, room .polynomial))
     (simp (length-take, length-drop) (omega (arith, room .room)))
 
 pub pack-at-spec : {M : Type 1} → statement M
@@ -30,5 +30,7 @@ pack-at-spec =
     let filled = c .before .before in
     let start = filled .before .before .before .before in
     let a = start .args in
+    let room = start .pre in
     rw (filled .pack-into .ensures)
-    (put-placed (a .place) (32 * a .width) (a .out .now) _ (size (a .width) (a .place) (a .coefficients .now) (a .out .now) (start .pre)))))
+    (put-placed (a .place) (32 * a .width) (a .out .now) _
+    (size (a .width) (a .place) (a .coefficients .now) (a .out .now) (room .least) (room .polynomial) (room .room)))))

@@ -34,7 +34,7 @@ pack-at-requires c κs =
     let room = k .before .before .before .before .pre in
     record {
       least = room .least;
-      most = room .most;
+      widest = room .most;
       polynomial = simp (length-take, length-drop) (omega (arith, room .polynomials, k .loop-test .taken));
       room = omega (arith, next k, k .before .loop .inv .1);
     }

@@ -16,16 +16,16 @@ use Rattle.packing.specs.Rooms.{PlaceRoom}
 use Rattle.packing.specs.Laws.Packing.{recut-append}
 use Rattle.packing.specs.Laws.Polynomials.{length-packed, whole-back}
 
--- one polynomial x, at a place of `out`
-module _ (w place : ℕ) (x out : List ℕ) (room : PlaceRoom w (length x) place (length out)) where
+-- A6: "for a general width and any place with 32 × width bytes left". One polynomial x, at a place of `out`
+module _ (w place : ℕ) (x out : List ℕ) (least : 1 ≤ w) (polynomial : length x ≡ 256) (room : place + 32 * w ≤ length out) where
   abbrev new : List ℕ
   new = placed place (packed w x) out
 
   pub size : length (packed w x) ≡ 32 * w
-  size = length-packed w 1 (room .least) x (omega (arith, room .polynomial)) ∙ omega arith
+  size = length-packed w 1 least x (omega arith) ∙ omega arith
 
   fits : place + length (packed w x) ≤ length out
-  fits = omega (arith, size, room .room)
+  fits = omega (arith, size)
 
   -- its 32 w bytes are the packed polynomial
   pub there : take (32 * w) (drop place new) ≡ packed w x
@@ -37,7 +37,11 @@ module _ (w place : ℕ) (x out : List ℕ) (room : PlaceRoom w (length x) place
 
   -- so that they unpack to it
   pub unpacked-there : Below (2 ^ w) x → unpacked w (take (32 * w) (drop place new)) ≡ x
-  unpacked-there below = rw there (whole-back w 1 (room .least) x (omega (arith, room .polynomial)) below)
+  unpacked-there below = rw there (whole-back w 1 least x (omega arith) below)
+
+  -- what `pack_at` asks is no more than a width of at most 16 besides
+  pub within : w ≤ 16 → PlaceRoom w (length x) place (length out)
+  within widest = record { least = least; widest = widest; polynomial = polynomial; room = room }
 
 -- b packed right behind the l polynomials a: as all of them packed
 pub packed-more :

@@ -1,7 +1,24 @@
 -- `saber::saber_public_key_length` meets its contract: the calls give the definition's answer and row.
+use mathlib.Core.Path.{ap}
 use borrow.Author.Needs.{needs}
+use Rattle.sets.specs.declared.Params.{Params}
+use Rattle.saber.specs.Laws.Lookup.{found}
 use Rattle.saber.proofs.saber_public_key_length.Statement.{statement}
 use Rattle.saber.proofs.saber_public_key_length.Tie as tie
 
+returns : tie.Need-returns
+returns c =
+    let row = c .before .before .before in
+    let a = row .before .args in
+    let number = λ (p : Params). p .pk in
+    found (a .set) (a .«secret-key») (number (row .set-params .result)) (c .before .before .lookup-answer .ensures) (c .or-zero .ensures)
+    (ap number (row .set-params .ensures))
+
 pub saber-public-key-length-spec : {M : Type 1} → statement M
-saber-public-key-length-spec = tie.close (tie.spec (λ c κs. search needs) (λ c κs. search needs) (λ c κs. search needs) (λ c. cc))
+saber-public-key-length-spec =
+    tie.close
+    (tie.spec
+    (λ c κs. search needs)
+    (λ c κs. search needs)
+    (λ c κs. search needs)
+    returns)

@@ -1,9 +1,21 @@
 -- `saber::saber_public_key_offset` meets its contract: the calls give the definition's answer and row, and a row has few polynomials.
-use borrow.Author.Needs.{needs}
+use Prim.Native.Nat.{_*_}
 use native.Mathlib.Omega.{arith}
+use mathlib.Core.Path.{ap}
+use borrow.Author.Needs.{needs}
+use Rattle.sets.specs.declared.Params.{Params}
 use Rattle.sets.specs.Laws.Rows.{few-rows}
+use Rattle.saber.specs.Laws.Lookup.{found}
 use Rattle.saber.proofs.saber_public_key_offset.Statement.{statement}
 use Rattle.saber.proofs.saber_public_key_offset.Tie as tie
+
+returns : tie.Need-returns
+returns c =
+    let row = c .before .before .before in
+    let a = row .before .args in
+    let number = λ (p : Params). 416 * p .l in
+    found (a .set) (a .«secret-key») (number (row .set-params .result)) (c .before .before .lookup-answer .ensures) (c .or-zero .ensures)
+    (ap number (row .set-params .ensures))
 
 pub saber-public-key-offset-spec : {M : Type 1} → statement M
 saber-public-key-offset-spec =
@@ -13,4 +25,4 @@ saber-public-key-offset-spec =
     (λ c κs. search needs)
     (λ c. omega (arith, few-rows _ (c .before .before .set-params .ensures)))
     (λ c κs. search needs)
-    (λ c. cc))
+    returns)
