@@ -39,7 +39,7 @@ class Unreadable(Exception):
 
 
 def drawn(seed):
-    """Matrix seed, secret seed, z and the bytes of sealing, in the order of the submission's algorithms 23, 26, 27."""
+    """Matrix seed, secret seed, z and the encapsulation seed, in the order of the submission's algorithms 23, 26, 27."""
     generator = Drbg(seed)
     return [generator.randombytes(32) for _ in range(4)]
 
@@ -47,9 +47,9 @@ def drawn(seed):
 def entry_of(set_number, seed):
     """The oracle's entry."""
     set = saber.SETS[set_number]
-    matrix_seed, secret_seed, z, sealing_seed = drawn(seed)
+    matrix_seed, secret_seed, z, encaps_seed = drawn(seed)
     pk, sk = saber.keygen(set, matrix_seed, secret_seed, z)
-    return Entry(seed, pk, sk, *saber.encaps(set, pk, sealing_seed))
+    return Entry(seed, pk, sk, *saber.encaps(set, pk, encaps_seed))
 
 
 # The format
@@ -99,14 +99,14 @@ def read(text):
 
 
 def checks(label, entry):
-    """The three calls of an entry; sealing and unsealing are given the entry's own keys and capsule."""
+    """The three calls of an entry; encapsulation and decapsulation are given the entry's own keys and ciphertext."""
     number = SET_OF[len(entry.pk)]
     set = saber.SETS[number]
-    matrix_seed, secret_seed, z, sealing_seed = drawn(entry.seed)
+    matrix_seed, secret_seed, z, encaps_seed = drawn(entry.seed)
     pk, sk, ct, ss = map(lent_bytes, (set.public_key, set.secret_key, set.ciphertext, 32))
     calls = (
         (("keygen", number, matrix_seed, secret_seed, z, pk, sk), (entry.pk, entry.sk)),
-        (("encaps", number, entry.pk, sealing_seed, ct, ss), (entry.ct, entry.ss)),
+        (("encaps", number, entry.pk, encaps_seed, ct, ss), (entry.ct, entry.ss)),
         (("decaps", number, entry.sk, entry.ct, ss), (entry.ss,)),
     )
     return [

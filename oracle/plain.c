@@ -246,9 +246,9 @@ void plain_keygen(int set_number, const uint8_t matrix_seed[32], const uint8_t s
     memcpy(secret_key + public_length + 32, z, 32);
 }
 
-// What sealing and unsealing share: k and r, one after the other, and the ciphertext of m.
-static void seal(const params *set, const uint8_t *public_key, const uint8_t hash_pk[32], const uint8_t m[32],
-                 uint8_t *ciphertext, uint8_t kr[64]) {
+// What encapsulation and decapsulation share: k and r, one after the other, and the ciphertext of m.
+static void encaps_message(const params *set, const uint8_t *public_key, const uint8_t hash_pk[32],
+                           const uint8_t m[32], uint8_t *ciphertext, uint8_t kr[64]) {
     uint8_t buf[64];
     memcpy(buf, m, 32);
     memcpy(buf + 32, hash_pk, 32);
@@ -263,7 +263,7 @@ void plain_encaps(int set_number, const uint8_t *public_key, const uint8_t seed[
 
     sha3_256(m, seed, 32);
     sha3_256(hash_pk, public_key, POLY_P * set->l + 32);
-    seal(set, public_key, hash_pk, m, ciphertext, kr);
+    encaps_message(set, public_key, hash_pk, m, ciphertext, kr);
     sha3_256(kr + 32, ciphertext, POLY_P * set->l + 32 * set->bits); // in the place of r
     sha3_256(shared_secret, kr, 64);
 }
@@ -277,7 +277,7 @@ void plain_decaps(int set_number, const uint8_t *secret_key, const uint8_t *ciph
     uint8_t m[32], kr[64], again[CIPHERTEXT_MAX], different = 0;
 
     decrypt(set, secret_key, ciphertext, m);
-    seal(set, public_key, hash_pk, m, again, kr);
+    encaps_message(set, public_key, hash_pk, m, again, kr);
     for (int i = 0; i < length; i++)
         different |= again[i] ^ ciphertext[i];
 

@@ -392,7 +392,7 @@ def recover_section():
 
 @functools.cache
 def keys(number, turn):
-    """The seeds of making, and the keys; the first turns have seeds of 0 and of ones."""
+    """The seeds of key generation, and the keys; the first turns have seeds of 0 and of ones."""
     set = saber.NUMBERS[number]
     drawn = [draw(f"keygen {number} {turn} {name}", 32) for name in ("matrix seed", "secret seed", "z")]
     seeds = {0: [bytes(32)] * 3, 1: [ONES] * 3}.get(turn, drawn)
@@ -400,8 +400,8 @@ def keys(number, turn):
 
 
 @functools.cache
-def capsule(number, turn):
-    """The seed of sealing to the key of that turn, the ciphertext and the shared secret."""
+def encapsulated(number, turn):
+    """The seed of encapsulation to the key of that turn, the ciphertext and the shared secret."""
     seed = {0: bytes(32), 1: ONES}.get(turn, draw(f"encaps {number} {turn}", 32))
     return seed, *saber.encaps(saber.NUMBERS[number], keys(number, turn)[1], seed)
 
@@ -432,7 +432,7 @@ def keygen_section():
 def encaps_section():
     def sound(number, turn=2):
         lent = [lent_bytes(saber.NUMBERS[number].ciphertext), lent_bytes(32)]
-        return [number, keys(number, turn)[1], capsule(number, turn)[0], *lent]
+        return [number, keys(number, turn)[1], encapsulated(number, turn)[0], *lent]
 
     yield "# encaps: the cases of document 01"
     lent = [lent_bytes(1088), lent_bytes(32)]
@@ -452,15 +452,15 @@ def encaps_section():
 
 def decaps_section():
     def sound(number, turn=2):
-        return [number, keys(number, turn)[2], capsule(number, turn)[1], lent_bytes(32)]
+        return [number, keys(number, turn)[2], encapsulated(number, turn)[1], lent_bytes(32)]
 
     for number in saber.NUMBERS:
         set, lent = saber.NUMBERS[number], lent_bytes(32)
         yield f"# decaps, set {number}: ciphertexts that encaps makes"
         for turn in range(8):
-            yield ask("decaps", *sound(number, turn), stated=(0, [capsule(number, turn)[2]]))
+            yield ask("decaps", *sound(number, turn), stated=(0, [encapsulated(number, turn)[2]]))
         _, secret_key, ciphertext, _ = sound(number)
-        (*_, z), (seed, _, shared_secret), data = keys(number, 2)[0], capsule(number, 2), 320 * set.l
+        (*_, z), (seed, _, shared_secret), data = keys(number, 2)[0], encapsulated(number, 2), 320 * set.l
 
         def rejected(other):
             return ask("decaps", number, secret_key, other, lent, stated=(0, [rejected_secret(z, other)]))
@@ -511,13 +511,13 @@ def encrypt_section():
 def decrypt_section():
     def sound(number, turn=2):
         set = saber.NUMBERS[number]
-        return [number, keys(number, turn)[2][: set.plain_secret], capsule(number, turn)[1], lent_bytes(32)]
+        return [number, keys(number, turn)[2][: set.plain_secret], encapsulated(number, turn)[1], lent_bytes(32)]
 
     for number in saber.NUMBERS:
         set, lent = saber.NUMBERS[number], lent_bytes(32)
         yield f"# decrypt, set {number}: ciphertexts that encaps makes"
         for turn in range(4):
-            yield ask("decrypt", *sound(number, turn), stated=(0, [saber.sha3_256(capsule(number, turn)[0])]))
+            yield ask("decrypt", *sound(number, turn), stated=(0, [saber.sha3_256(encapsulated(number, turn)[0])]))
         yield f"# decrypt, set {number}: random messages"
         for turn in range(4):
             message = draw(f"decrypt {number} {turn} message", 32)

@@ -237,7 +237,7 @@ def key_of(b, stored):
 
 
 def keygen(set, matrix_seed, secret_seed, z):
-    """Making: the public key and the secret key."""
+    """Key generation: the public key and the secret key."""
     stored, A, s = made(set, matrix_seed, secret_seed)
     public_key = key_of(rounded(times(transposed(A), s)), stored)
     plain_secret = pack(13, modulo(flat(s), Q))
@@ -249,7 +249,7 @@ def public_key_of(set, secret_key):
     return secret_key[set.plain_secret : -64]
 
 
-def sealed_data(set, b, s1, message):
+def message_data(set, b, s1, message):
     """The reconciliation data of a message."""
     v1 = modulo(inner(b, s1), P)
     return recon_data(set, [masked(set, v, bit) for v, bit in zip(v1, unpack(1, message))])
@@ -259,7 +259,7 @@ def encrypt(set, public_key, message, seed):
     b, stored = polynomials(unpack(10, public_key[:-32])), public_key[-32:]
     s1 = secret_of(set, seed)
     b1 = rounded(times(matrix_of(set, stored), s1))
-    return pack(10, flat(b1)) + pack(set.data_width, sealed_data(set, b, s1, message))
+    return pack(10, flat(b1)) + pack(set.data_width, message_data(set, b, s1, message))
 
 
 def opened(set, s, b1, data):
@@ -280,7 +280,7 @@ def key_and_seed(m, key_hash):
 
 
 def encaps(set, public_key, seed):
-    """Sealing: the ciphertext (capsule) and the shared secret."""
+    """Encapsulation ("sealing"): the ciphertext ("capsule") and the shared secret."""
     m = sha3_256(seed)
     k, r = key_and_seed(m, sha3_256(public_key))
     ciphertext = encrypt(set, public_key, m, r)
@@ -288,7 +288,7 @@ def encaps(set, public_key, seed):
 
 
 def decaps(set, secret_key, ciphertext):
-    """Unsealing: the shared secret, or where the ciphertexts differ the rejected one, of z and the given one (A2)."""
+    """Decapsulation ("unsealing"): the shared secret; where the ciphertexts differ, one of z and the given one (A2)."""
     plain_secret, rest = secret_key[: set.plain_secret], secret_key[set.plain_secret :]
     public_key, key_hash, z = rest[:-64], rest[-64:-32], rest[-32:]
     m = decrypt(set, plain_secret, ciphertext)
@@ -403,7 +403,7 @@ def noise_of(s, s1, e, e1):
 
 
 def outcome(set, matrix_seed, secret_seed, seed):
-    """Of making with the first two seeds and sealing with the third: N, m, and what decryption gives. z has no part."""
+    """Of keys of the first two seeds and encapsulation with the third: N, m, and what decryption gives, without z."""
     stored, A, s = made(set, matrix_seed, secret_seed)
     exact = times(transposed(A), s)
     b, m = rounded(exact), sha3_256(seed)
@@ -411,10 +411,10 @@ def outcome(set, matrix_seed, secret_seed, seed):
     s1 = secret_of(set, r)
     exact1 = times(A, s1)
     N = noise_of(s, s1, error(exact), error(exact1))
-    return N, m, opened(set, s, rounded(exact1), sealed_data(set, b, s1, m))
+    return N, m, opened(set, s, rounded(exact1), message_data(set, b, s1, m))
 
 
-# The margin (A5), of groups of a matrix seed, a secret seed and a sealing seed
+# The margin (A5), of groups of a matrix seed, a secret seed and a seed of encapsulation
 
 
 GROUP, MOST_GROUPS = 96, 4096

@@ -72,7 +72,7 @@ def counted_secret(seed, l, mu):
 
 
 def rejected_secret(z, ciphertext):
-    """What a ciphertext gives that unsealing rejects (A2)."""
+    """What a ciphertext gives that decapsulation rejects (A2)."""
     return hashlib.sha3_256(z + hashlib.sha3_256(ciphertext).digest()).digest()
 
 

@@ -35,20 +35,20 @@ def value(bits):
 
 
 def keys(number, label):
-    """The three seeds of making, and the keys a call made of them."""
+    """The three seeds of key generation, and the keys a call made of them."""
     set = saber.NUMBERS[number]
     seeds = [draw(f"selftest {number} {label} {name}", 32) for name in ("matrix", "secret", "z")]
     answer, pair = run("keygen", number, *seeds, bytes(set.public_key), bytes(set.secret_key))
-    check(f"set {number}: making answers 0", answer == 0)
+    check(f"set {number}: key generation answers 0", answer == 0)
     return seeds, *pair
 
 
-def capsule(number, public_key, label):
-    """The seed of sealing, and the ciphertext and shared secret a call made of it."""
-    seed = draw(f"selftest {number} {label} sealing", 32)
+def encapsulated(number, public_key, label):
+    """The seed of encapsulation, and the ciphertext and shared secret a call made of it."""
+    seed = draw(f"selftest {number} {label} encaps", 32)
     size = saber.NUMBERS[number].ciphertext
     answer, made = run("encaps", number, public_key, seed, bytes(size), bytes(32))
-    check(f"set {number}: sealing answers 0", answer == 0)
+    check(f"set {number}: encapsulation answers 0", answer == 0)
     return seed, *made
 
 
@@ -317,7 +317,7 @@ def demand_3(number, label):
     """Round trips, and the noise against what the difference of v and v' shows of it."""
     set = saber.NUMBERS[number]
     seeds, public_key, secret_key = keys(number, label)
-    seed, ciphertext, shared_secret = capsule(number, public_key, label)
+    seed, ciphertext, shared_secret = encapsulated(number, public_key, label)
     m = hashlib.sha3_256(seed).digest()
     N, *messages = saber.outcome(set, *seeds[:2], seed)
     check(f"set {number}: noise within its bounds", len(N) == 256 and all(abs(x) <= 8 * set.margin for x in N))
@@ -325,11 +325,12 @@ def demand_3(number, label):
 
     plain_secret = secret_key[: 416 * set.l]
     check(f"set {number}: decryption", run("decrypt", number, plain_secret, ciphertext, bytes(32)) == (0, [m]))
-    check(f"set {number}: unsealing", run("decaps", number, secret_key, ciphertext, bytes(32)) == (0, [shared_secret]))
+    answer = run("decaps", number, secret_key, ciphertext, bytes(32))
+    check(f"set {number}: decapsulation", answer == (0, [shared_secret]))
 
     kr = hashlib.sha3_512(m + hashlib.sha3_256(public_key).digest()).digest()
     again = run("encrypt", number, public_key, m, kr[32:], bytes(set.ciphertext))
-    check(f"set {number}: sealing encrypts m with r", again == (0, [ciphertext]))
+    check(f"set {number}: encapsulation encrypts m with r", again == (0, [ciphertext]))
     hashed = hashlib.sha3_256(kr[:32] + hashlib.sha3_256(ciphertext).digest()).digest()
     check(f"set {number}: shared secret", shared_secret == hashed)
 
@@ -457,7 +458,7 @@ def damaged(number):
     """A damaged ciphertext gives SHA3-256 of z and its own hash, whatever it decrypts to."""
     set = saber.NUMBERS[number]
     seeds, public_key, secret_key = keys(number, "damaged")
-    seed, ciphertext, shared_secret = capsule(number, public_key, "damaged")
+    seed, ciphertext, shared_secret = encapsulated(number, public_key, "damaged")
     secrets = [shared_secret]
 
     def rejected(label, key, other):

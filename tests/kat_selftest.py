@@ -25,7 +25,7 @@ def reversed_entry(number, seed, name):
     with readings.reversed_in_oracle([name]):
         entry = entry_of(number, seed)
         if name == readings.REJECTION:
-            # An honest capsule is never rejected.
+            # An honest ciphertext is never rejected.
             ct = with_bit_turned(entry.ct, 0)
             entry = entry._replace(ct=ct, ss=saber.decaps(saber.SETS[number], entry.sk, ct))
     return entry
@@ -45,7 +45,7 @@ def main():
         for name in readings.READINGS:
             laid = differences(reversed_entry(number, seed, name))
             if name == readings.REJECTION:
-                # Its capsule is damaged, so it is not the one that sealing makes.
+                # Its ciphertext is damaged, so it is not the one that encapsulation makes.
                 laid.pop("encaps")
             if not laid or any(choices != [(name,)] for choices in laid.values()):
                 failed.append(f"set {number}: {name}: laid to {laid}")

@@ -33,7 +33,7 @@ def differences(library, entry, part):
     """The calls of an entry that differ. The part, 0 to 1, is where a bit of the ciphertext is turned."""
     number = SET_OF[len(entry.pk)]
     set = saber.SETS[number]
-    *seeds, sealing_seed = drawn(entry.seed)
+    *seeds, encaps_seed = drawn(entry.seed)
     damaged = with_bit_turned(entry.ct, round(part * (8 * set.ciphertext - set.data_width)))
     rejected = saber.decaps(set, entry.sk, damaged)
 
@@ -44,7 +44,7 @@ def differences(library, entry, part):
 
     calls = {
         "keygen": (library.plain_keygen, seeds, [entry.pk, entry.sk]),
-        "encaps": (library.plain_encaps, [entry.pk, sealing_seed], [entry.ct, entry.ss]),
+        "encaps": (library.plain_encaps, [entry.pk, encaps_seed], [entry.ct, entry.ss]),
         "decaps": (library.plain_decaps, [entry.sk, entry.ct], [entry.ss]),
         "decaps of a damaged ciphertext": (library.plain_decaps, [entry.sk, damaged], [rejected]),
     }

@@ -39,8 +39,8 @@ def rejected_as_in_section_10(_):
     return decaps
 
 
-# The reading that no honest capsule shows
-REJECTION = "the rejected secret is of z, then the capsule's hash, and not of k and z"
+# The reading that no honest ciphertext shows
+REJECTION = "the rejected secret is of z, then the ciphertext's hash, and not of k and z"
 
 # Each reading with the oracle's functions that reverse it. Lengths tell the uses of a hash apart: SHAKE-128 gives 32
 # bytes for the stored seed alone; SHA3-256 is given 32 bytes for m alone and 64 for the last step to a secret alone.
@@ -62,7 +62,7 @@ READINGS = {
     "k is the first half of SHA3-512, r the second": {
         "key_and_seed": lambda key_and_seed: lambda m, key_hash: key_and_seed(m, key_hash)[::-1]
     },
-    "the shared secret is of k, then the capsule's hash": {
+    "the shared secret is of k, then the ciphertext's hash": {
         "sha3_256": lambda hash: lambda string: hash(string[32:] + string[:32] if len(string) == 64 else string)
     },
     REJECTION: {"decaps": rejected_as_in_section_10},

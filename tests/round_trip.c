@@ -101,7 +101,7 @@ static void round_trip(uint32_t number) {
     for (int i = 0; i < 12; i++)
         record_trip(number, ciphertext, ct, doors[i / 2], i % 2);
 
-    // The message that encapsulation seals is the hash of its seed.
+    // The message that encapsulation encrypts is the hash of its seed.
     CHECK(saber_decrypt(number, secret_key, plain, ciphertext, ct, message, MESSAGE) == SABER_OK);
     CHECK(saber_sha3_256(seed, SEED, hashed, MESSAGE) == SABER_OK);
     CHECK(memcmp(message, hashed, MESSAGE) == 0);

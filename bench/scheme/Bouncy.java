@@ -53,7 +53,7 @@ public class Bouncy {
                 byte[] opened = new SABERKEMExtractor(secretKey).extractSecret(sent.getEncapsulation());
                 long t4 = System.nanoTime();
                 if (!Arrays.equals(sent.getSecret(), opened)) {
-                    throw new IllegalStateException("a page did not open");
+                    throw new IllegalStateException("decapsulation gave another secret");
                 }
                 if (run == -WARM) {
                     System.out.println("key " + set + " " + Hex.toHexString(publicKey.getPublicKey()) + " "

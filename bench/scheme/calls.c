@@ -97,7 +97,7 @@ static void time_calls(void) {
             if (memcmp(&ours, &theirs, sizeof ours) != 0)
                 fail("the two differ");
             if (memcmp(ours.sent, ours.opened, 32) != 0)
-                fail("a page did not open");
+                fail("decaps gave another secret");
         }
         for (int call = 0; call < CALLS; call++) {
             print_cycles("library", set, call, mine[call]);

@@ -1,4 +1,4 @@
-//! One side makes keys, the other seals a secret to the public key, the first opens it.
+//! One side makes keys, the other encapsulates a secret to the public key, the first decapsulates it.
 use std::fs::File;
 use std::io::Read;
 

@@ -19,15 +19,15 @@ use Rattle.correctness.specs.Claim.{seedsNoise, seedsCiphertext}
 
 -- ---- one group
 
--- "(matrix seed, secret seed, sealing seed)", of 32 bytes each
+-- "(matrix seed, secret seed, sealing seed)", of 32 bytes each; the last one is the seed of encapsulation
 abbrev pub matrixSeed : List ℕ → List ℕ
 matrixSeed group = take 32 group
 
 abbrev pub secretSeed : List ℕ → List ℕ
 secretSeed group = take 32 (drop 32 group)
 
-abbrev pub sealingSeed : List ℕ → List ℕ
-sealingSeed group = take 32 (drop 64 group)
+abbrev pub encapsSeed : List ℕ → List ℕ
+encapsSeed group = take 32 (drop 64 group)
 
 -- in how many places two lists of one length differ
 unfoldable pub differing : List ℕ → List ℕ → ℕ
@@ -38,7 +38,7 @@ differing (x ∷ xs) [] = 0
 module _ (p : Params) (group : List ℕ) where
   -- "the largest size of a noise coefficient"
   unfoldable pub size : ℕ
-  size = largest (seedsNoise p (matrixSeed group) (secretSeed group) (sealingSeed group))
+  size = largest (seedsNoise p (matrixSeed group) (secretSeed group) (encapsSeed group))
 
   -- "8 × M minus" it
   abbrev pub margin : ℤ
@@ -46,11 +46,11 @@ module _ (p : Params) (group : List ℕ) where
 
   -- what decryption gives, with the plain secret, of the ciphertext that the steps reckon from the seeds
   unfoldable pub received : List ℕ
-  received = decrypted p (plainSecret p (secretSeed group)) (seedsCiphertext p (matrixSeed group) (secretSeed group) (sealingSeed group))
+  received = decrypted p (plainSecret p (secretSeed group)) (seedsCiphertext p (matrixSeed group) (secretSeed group) (encapsSeed group))
 
   -- "message bits decrypted wrong": those in which it differs from the message that was encrypted
   unfoldable pub wrongBits : ℕ
-  wrongBits = differing (unpacked 1 (messageOf (sealingSeed group))) (unpacked 1 received)
+  wrongBits = differing (unpacked 1 (messageOf (encapsSeed group))) (unpacked 1 received)
 
 -- ---- all groups of a string of bytes
 

@@ -1,4 +1,4 @@
-// How near a page comes to a miss: the message bits that decryption gives wrong, and the largest size of a coefficient of the noise.
+// How near decryption comes to a miss: the message bits that decryption gives wrong, and the largest size of a coefficient of the noise.
 ghost use mathlib.Core.Bool.{cond};
 ghost use mathlib.Core.Path.{_≡_};
 ghost use Prim.Native.Nat.{_*_, _≤_};

@@ -22,7 +22,7 @@ use Rattle.correctness.specs.Claim.{NoiseWithin}
 use Rattle.correctness.specs.Laws.Steps.{returned}
 use Rattle.measure.specs.Measure.{largest}
 use Rattle.measure.specs.Laws.Bounds.{lies-size, largest-bound, no-larger}
-use Rattle.margin.specs.Margin.{matrixSeed, secretSeed, sealingSeed, differing, size, margin, received, wrongBits}
+use Rattle.margin.specs.Margin.{matrixSeed, secretSeed, encapsSeed, differing, size, margin, received, wrongBits}
 use Rattle.margin.specs.Margin.{groups, smaller, smallest, total, least, wrong}
 
 lies : (b : ℕ) (z : ℤ) → natAbs z ≤ b → Lies b b z
@@ -41,7 +41,7 @@ module _ (set : ℕ) (group : List ℕ) where
       let s = pos (size (paramsOf set) group) in
       (λ h. omega (arith, h, sub-split b s), λ h. omega (arith, h, sub-split b s, one-sign (margin (paramsOf set) group)))
 
-  pub within : (dn (margin (paramsOf set) group) ≡ 0) ↔ NoiseWithin (paramsOf set) (matrixSeed group) (secretSeed group) (sealingSeed group)
+  pub within : (dn (margin (paramsOf set) group) ≡ 0) ↔ NoiseWithin (paramsOf set) (matrixSeed group) (secretSeed group) (encapsSeed group)
   unfolding size
   within = (λ h. within-largest _ _ .0 (not-negative .0 h), λ w. not-negative .1 (within-largest _ _ .1 w))
 
@@ -53,8 +53,8 @@ same-none (x ∷ xs) = rw (eq-eqb x x refl) (omega (arith, same-none xs))
 pub no-wrong-bit : (set : ℕ) → known set ≡ true → (group : List ℕ) → dn (margin (paramsOf set) group) ≡ 0 → wrongBits (paramsOf set) group ≡ 0
 unfolding wrongBits received
 no-wrong-bit set k group h =
-    let back = returned set k (matrixSeed group) (secretSeed group) [] (sealingSeed group) (within set group .0 h) .message in
-    rw (← plain-in (paramsOf set) (row set k) (matrixSeed group) (secretSeed group) [], back) (same-none (unpacked 1 (messageOf (sealingSeed group))))
+    let back = returned set k (matrixSeed group) (secretSeed group) [] (encapsSeed group) (within set group .0 h) .message in
+    rw (← plain-in (paramsOf set) (row set k) (matrixSeed group) (secretSeed group) [], back) (same-none (unpacked 1 (messageOf (encapsSeed group))))
 
 -- ---- all groups
 -- a number that is not negative, or none

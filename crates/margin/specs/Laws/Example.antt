@@ -7,7 +7,7 @@ use lib.IntN.{pos, negsuc}
 use lib.ListN.{length}
 use Rattle.lists.specs.Lists.{from}
 use Rattle.measure.specs.Measure.{largest}
-use Rattle.margin.specs.Margin.{matrixSeed, secretSeed, sealingSeed, differing, groups, rest, smallest, total}
+use Rattle.margin.specs.Margin.{matrixSeed, secretSeed, encapsSeed, differing, groups, rest, smallest, total}
 
 -- of -5, 3 and 4 the largest size is 5, and -5 the smallest number; none is the smallest of no numbers
 pub sizes : largest (negsuc 4 ∷ pos 3 ∷ pos 4 ∷ []) ≡ 5
@@ -30,6 +30,6 @@ cut = (refl, refl)
 
 pub seeds :
     (matrixSeed (from 96 (λ i. i)) ≡ from 32 (λ i. i)) × (secretSeed (from 96 (λ i. i)) ≡ from 32 (λ i. 32 + i))
-    × (sealingSeed (from 96 (λ i. i)) ≡ from 32 (λ i. 64 + i))
+    × (encapsSeed (from 96 (λ i. i)) ≡ from 32 (λ i. 64 + i))
 unfolding from
 seeds = (refl, refl, refl)

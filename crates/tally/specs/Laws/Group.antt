@@ -29,7 +29,7 @@ use Rattle.noise.specs.Noise.{noise}
 use Rattle.correctness.specs.Claim.{seedsNoise}
 use Rattle.measure.specs.Measure.{largest}
 use Rattle.measure.specs.Laws.Exact.{noise-fits}
-use Rattle.margin.specs.Margin.{matrixSeed, secretSeed, sealingSeed, differing, size, received, wrongBits}
+use Rattle.margin.specs.Margin.{matrixSeed, secretSeed, encapsSeed, differing, size, received, wrongBits}
 use Rattle.margin.specs.Laws.Counts.{differing-most}
 use Rattle.margin.specs.Laws.Measures.{few-sums}
 use Rattle.tally.specs.Rooms.{Measured}
@@ -51,14 +51,14 @@ module _ (p : Params) (row : Row p) where
   wrong-few : (group : List ℕ) → wrongBits p group ≤ 256
   unfolding wrongBits
   wrong-few group =
-      let m = messageOf (sealingSeed group) in
+      let m = messageOf (encapsSeed group) in
       let bits = recut-length 8 1 256 m (omega arith) (rw length-sponge (omega arith)) in
       omega (arith, differing-most (unpacked 1 m) (unpacked 1 (received p group)), bits)
 
   -- the steps that measure a group
   module _
       (group z : List ℕ) {pk sk : List ℕ} (keys : KeyPair p (matrixSeed group) (secretSeed group) z pk sk) {m hash kr : List ℕ}
-      (em : m ≡ messageOf (sealingSeed group)) (eh : hash ≡ sha3-256 pk) (ek : kr ≡ sha3-512 (m ++ hash)) where
+      (em : m ≡ messageOf (encapsSeed group)) (eh : hash ≡ sha3-256 pk) (ek : kr ≡ sha3-512 (m ++ hash)) where
     abbrev coins : List ℕ
     coins = take 32 (drop 32 kr)
 
@@ -70,7 +70,7 @@ module _ (p : Params) (row : Row p) where
     abbrev missed : ℕ
     missed = differing (unpacked 1 m) (unpacked 1 (decrypted p (take (416 * p .l) sk) (encrypted p pk m coins)))
 
-    coins-are : coins ≡ coinsOf (messageOf (sealingSeed group)) (sha3-256 (publicKey p (matrixSeed group) (secretSeed group)))
+    coins-are : coins ≡ coinsOf (messageOf (encapsSeed group)) (sha3-256 (publicKey p (matrixSeed group) (secretSeed group)))
     coins-are = coins-part (m ++ hash) ek ∙ rw (ek, eh, em, keys .public)
 
     size-is : found ≡ size p group
