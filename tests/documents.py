@@ -22,7 +22,10 @@ PATHS = re.compile(r"`((?:bench|bindings|crates|docs|include|oracle|tests|vector
 
 
 def declares(path, name):
-    return path.is_file() and re.search(rf"(?<![\w·-]){re.escape(name)}(?![\w′-])\s*[:({{]", path.read_text())
+    """Whether a file of specs/ declares a name: at the start of a line, as `NAME :`, `record NAME` or `data NAME`."""
+    name = re.escape(name)
+    declaration = rf"^ *(?:(?:pub|abbrev|unfoldable) )*(?:{name} :|(?:record|data) {name})(?=\s)"
+    return path.is_file() and re.search(declaration, path.read_text(), re.MULTILINE)
 
 
 def cited(text):
