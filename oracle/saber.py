@@ -287,15 +287,21 @@ def encaps(set, public_key, seed):
     return ciphertext, sha3_256(k + sha3_256(ciphertext))
 
 
+def rejected(k, z, received, again):
+    """The secret where the ciphertexts differ (A2): of z and the one received, and not of k or the one made again."""
+    return sha3_256(z + sha3_256(received))
+
+
 def decaps(set, secret_key, ciphertext):
-    """Decapsulation ("unsealing"): the shared secret; where the ciphertexts differ, one of z and the given one (A2)."""
+    """Decapsulation ("unsealing"): the shared secret, or the rejected one where the ciphertexts differ."""
     plain_secret, rest = secret_key[: set.plain_secret], secret_key[set.plain_secret :]
     public_key, key_hash, z = rest[:-64], rest[-64:-32], rest[-32:]
     m = decrypt(set, plain_secret, ciphertext)
     k, r = key_and_seed(m, key_hash)
-    if encrypt(set, public_key, m, r) == ciphertext:
+    again = encrypt(set, public_key, m, r)
+    if again == ciphertext:
         return sha3_256(k + sha3_256(ciphertext))
-    return sha3_256(z + sha3_256(ciphertext))
+    return rejected(k, z, ciphertext, again)
 
 
 # Records (A1, wide doors A7): a byte with a bit map, then the fields whose bit stands, numbers little-endian

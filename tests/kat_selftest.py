@@ -24,7 +24,7 @@ def reversed_entry(number, seed, name):
     """An entry made with one reading reversed."""
     with readings.reversed_in_oracle([name]):
         entry = entry_of(number, seed)
-        if name == readings.REJECTION:
+        if name in readings.DAMAGED:
             # An honest ciphertext is never rejected.
             ct = with_bit_turned(entry.ct, 0)
             entry = entry._replace(ct=ct, ss=saber.decaps(saber.SETS[number], entry.sk, ct))
@@ -44,7 +44,7 @@ def main():
             failed.append(f"set {number}: a damaged shared secret is laid to a reading")
         for name in readings.READINGS:
             laid = differences(reversed_entry(number, seed, name))
-            if name == readings.REJECTION:
+            if name in readings.DAMAGED:
                 # Its ciphertext is damaged, so it is not the one that encapsulation makes.
                 laid.pop("encaps")
             if not laid or any(choices != [(name,)] for choices in laid.values()):
