@@ -1,5 +1,4 @@
--- The steps of the calls: what the code reads of a record and writes into it, one number after another, is the definition, and so is what it
--- asks.
+-- The steps of the calls: what the code reads of a record and writes into it, one number after another, is the definition.
 use Prim.Native.Nat.{ℕ, zero, suc, _+_, _-_, _*_, _^_, _<_, _≤_}
 use mathlib.Core.Bool.{not, _&&_}
 use mathlib.Core.List.{List, [], _∷_, _++_, append-assoc}
