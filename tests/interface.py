@@ -4,8 +4,9 @@
 
 Constants are held to the oracle's sets, functions and their parameters to crates/saber/src/lib.rt, and those to the
 oracle's calls. Nothing may lack and nothing may be there besides. So are the refusals that the header names, and the
-lists of calls in tests/stack.c and tests/secrets.c. Then each text is changed in one number, sign, type or `const`, in
-the order of two parameters or by a declaration, and every change has to be found. It exits with 1 on a difference.
+lists of calls in tests/stack.c, tests/secrets.c and tests/unread.c. Then each text is changed in one number, sign, type
+or `const`, in the order of two parameters or by a declaration, and every change has to be found. It exits with 1 on a
+difference.
 
 What is compared are dictionaries. A function has an entry for its result and one for each parameter as C passes it, in
 Rust's words: a slice is a pointer, as `*const u8`, `*mut u16` or `*mut i8`, and a count. A number that may be missing
@@ -25,7 +26,7 @@ import saber
 from calls import CALLS, run
 
 LIBRARY, HEADER, PACKAGE = "crates/saber/src/lib.rt", "include/saber.h", "bindings/rust/src/lib.rs"
-STACK, SECRETS = "tests/stack.c", "tests/secrets.c"
+STACK, SECRETS, UNREAD = "tests/stack.c", "tests/secrets.c", "tests/unread.c"
 NAMES = {number: name.upper() for number, name in saber.NAMES.items()}
 SIZES = ("public_key", "secret_key", "plain_secret", "ciphertext")  # of a set, in bytes
 ELEMENTS = {"bytes": "[u8]", "list": "[u16]", "signed": "[i8]"}
@@ -357,6 +358,8 @@ def listed_entries(texts):
         found[f"refusals of {name}"] = items(numbers)
     for name in re.findall(r"\bDO\((\w+),", texts[STACK]):
         found[f"{name} in {STACK}"] = "run"
+    for name in re.findall(r"\b(?:DO\(|saber_)(\w+)[,(]", texts[UNREAD]):
+        found[f"{name} in {UNREAD}"] = "run"
     for by, name in re.findall(r"\bBY_(LENGTHS|CONTENT), (\w+),", texts[SECRETS]):
         found.setdefault(f"{name} in {SECRETS}", {by}).add(by)
     return found
@@ -367,7 +370,7 @@ def expected_lists():
     for name, call in CALLS.items():
         if call.outputs:
             found[f"refusals of saber_{name}"] = [str(number) for number in call.questions]
-            found[f"{name} in {STACK}"] = "run"
+            found[f"{name} in {STACK}"] = found[f"{name} in {UNREAD}"] = "run"
             found[f"{name} in {SECRETS}"] = {"CONTENT" if 8 in call.questions else "LENGTHS"}
     return found
 
@@ -446,7 +449,7 @@ def changes(place, text):
 
 
 def main():
-    texts = {place: (ROOT / place).read_text() for place in (LIBRARY, HEADER, PACKAGE, STACK, SECRETS)}
+    texts = {place: (ROOT / place).read_text() for place in (LIBRARY, HEADER, PACKAGE, STACK, SECRETS, UNREAD)}
     codes = {place: code(texts[place]) for place in (LIBRARY, HEADER, PACKAGE)}
     found = differences(codes) + compared("lists", listed_entries(texts), expected_lists())
     for place in (HEADER, PACKAGE):

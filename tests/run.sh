@@ -59,6 +59,8 @@ test_with valgrind 'jumps and addresses that depend on secrets' python3 tests/se
 test_with valgrind 'instructions of decapsulation, accepted and rejected' python3 tests/counts.py
 test_of 'the stack test, built' c99 stack tests/stack.c
 test_of 'what the calls leave on the stack' "$work/stack"
+test_of 'the test of unread memory, built' c99 unread tests/unread.c
+test_of 'refused calls on memory that cannot be read' "$work/unread"
 test_of 'random calls against the oracle' python3 tests/differential.py
 test_of 'records, sound and mutated, against the oracle' python3 tests/records.py
 test_of 'the plain implementation on the known answers' python3 tests/plain.py
