@@ -16,11 +16,11 @@ returns : tie.Need-returns
 returns c =
     let row = row-of (c .before .before .before) in
     let a = row .before .args in
-    let p = row .set-params .ensures in
+    let is = row .set-params .ensures in
     asked (decapsQuestions (a .set) (a .«secret-key») (a .ciphertext) (a .«shared-secret»))
-    (asks (made-of (λ (p : Params). ltb 0 (p .l)) p (c .ask4 .ensures) refl)
-    (asks (made-of (λ (p : Params). eqb (a .«secret-key») (p .sk)) p (c .before .ask3 .ensures) refl)
-    (asks (made-of (λ (p : Params). eqb (a .ciphertext) (p .ct)) p (c .before .before .ask2 .ensures) refl)
+    (asks (made-of (λ (p : Params). ltb 0 (p .l)) is (c .ask4 .ensures) refl)
+    (asks (made-of (λ (p : Params). eqb (a .«secret-key») (p .sk)) is (c .before .ask3 .ensures) refl)
+    (asks (made-of (λ (p : Params). eqb (a .ciphertext) (p .ct)) is (c .before .before .ask2 .ensures) refl)
     (asks (c .before .before .before .ask .ensures) none))))
 
 pub decaps-answer-spec : {M : Type 1} → statement M

@@ -1,13 +1,13 @@
 -- `answers::decrypt_answer` meets its contract: it asks the questions of the definition, and l is at most 4, so that 416 l fits.
-use mathlib.Core.Path.{refl}
 use Prim.Native.Nat.{_*_}
+use mathlib.Core.Path.{refl}
 use native.Mathlib.Omega.{arith}
-use Rattle.sets.specs.Laws.Rows.{few-rows}
 use borrow.Author.Needs.{needs}
 use lib.Dec.{eqb, ltb}
 use Rattle.questions.specs.Laws.Answers.{asked, made-of}
 use Rattle.questions.specs.Laws.Answers.Asked.{asks, none}
 use Rattle.sets.specs.declared.Params.{Params}
+use Rattle.sets.specs.Laws.Rows.{few-rows}
 use Rattle.answers.specs.Questions.{decryptQuestions}
 use Rattle.answers.proofs.decrypt_answer.Statement.{statement}
 use Rattle.answers.proofs.decrypt_answer.Tie as tie
@@ -19,11 +19,11 @@ returns : tie.Need-returns
 returns c =
     let row = row-of (c .before .before .before) in
     let a = row .before .args in
-    let p = row .set-params .ensures in
+    let is = row .set-params .ensures in
     asked (decryptQuestions (a .set) (a .«plain-secret») (a .ciphertext) (a .message))
-    (asks (made-of (λ (p : Params). ltb 0 (p .l)) p (c .ask4 .ensures) refl)
-    (asks (made-of (λ (p : Params). eqb (a .«plain-secret») (416 * p .l)) p (c .before .ask3 .ensures) refl)
-    (asks (made-of (λ (p : Params). eqb (a .ciphertext) (p .ct)) p (c .before .before .ask2 .ensures) refl)
+    (asks (made-of (λ (p : Params). ltb 0 (p .l)) is (c .ask4 .ensures) refl)
+    (asks (made-of (λ (p : Params). eqb (a .«plain-secret») (416 * p .l)) is (c .before .ask3 .ensures) refl)
+    (asks (made-of (λ (p : Params). eqb (a .ciphertext) (p .ct)) is (c .before .before .ask2 .ensures) refl)
     (asks (c .before .before .before .ask .ensures) none))))
 
 pub decrypt-answer-spec : {M : Type 1} → statement M

@@ -17,12 +17,12 @@ returns c =
     let c2 = c .before .before .before in
     let row = row-of (c2 .before) in
     let a = row .before .args in
-    let p = row .set-params .ensures in
+    let is = row .set-params .ensures in
     asked (encapsQuestions (a .set) (a .«public-key») (a .seed) (a .ciphertext) (a .«shared-secret»))
-    (asks (made-of (λ (p : Params). ltb 0 (p .l)) p (c .ask5 .ensures) refl)
+    (asks (made-of (λ (p : Params). ltb 0 (p .l)) is (c .ask5 .ensures) refl)
     (asks (c .before .ask4 .ensures)
-    (asks (made-of (λ (p : Params). eqb (a .«public-key») (p .pk)) p (c .before .before .ask3 .ensures) refl)
-    (asks (made-of (λ (p : Params). eqb (a .ciphertext) (p .ct)) p (c .before .before .before .ask2 .ensures) refl)
+    (asks (made-of (λ (p : Params). eqb (a .«public-key») (p .pk)) is (c .before .before .ask3 .ensures) refl)
+    (asks (made-of (λ (p : Params). eqb (a .ciphertext) (p .ct)) is (c2 .ask2 .ensures) refl)
     (asks (c2 .before .ask .ensures) none)))))
 
 pub encaps-answer-spec : {M : Type 1} → statement M

@@ -17,13 +17,13 @@ returns c =
     let c2 = c .before .before .before in
     let row = row-of (c2 .before) in
     let a = row .before .args in
-    let p = row .set-params .ensures in
+    let is = row .set-params .ensures in
     asked (encryptQuestions (a .set) (a .«public-key») (a .message) (a .seed) (a .ciphertext))
-    (asks (made-of (λ (p : Params). ltb 0 (p .l)) p (c .ask5 .ensures) refl)
+    (asks (made-of (λ (p : Params). ltb 0 (p .l)) is (c .ask5 .ensures) refl)
     (asks (c .before .ask4 .ensures)
     (asks (c .before .before .ask3 .ensures)
-    (asks (made-of (λ (p : Params). eqb (a .«public-key») (p .pk)) p (c .before .before .before .ask2 .ensures) refl)
-    (asks (made-of (λ (p : Params). eqb (a .ciphertext) (p .ct)) p (c2 .before .ask .ensures) refl) none)))))
+    (asks (made-of (λ (p : Params). eqb (a .«public-key») (p .pk)) is (c2 .ask2 .ensures) refl)
+    (asks (made-of (λ (p : Params). eqb (a .ciphertext) (p .ct)) is (c2 .before .ask .ensures) refl) none)))))
 
 pub encrypt-answer-spec : {M : Type 1} → statement M
 encrypt-answer-spec =

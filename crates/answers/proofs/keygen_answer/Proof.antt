@@ -17,14 +17,14 @@ returns c =
     let c3 = c .before .before .before in
     let row = row-of (c3 .before .before) in
     let a = row .before .args in
-    let p = row .set-params .ensures in
+    let is = row .set-params .ensures in
     asked (keygenQuestions (a .set) (a .«matrix-seed») (a .«secret-seed») (a .z) (a .«public-key») (a .«secret-key»))
-    (asks (made-of (λ (p : Params). ltb 0 (p .l)) p (c .ask6 .ensures) refl)
+    (asks (made-of (λ (p : Params). ltb 0 (p .l)) is (c .ask6 .ensures) refl)
     (asks (c .before .ask5 .ensures)
     (asks (c .before .before .ask4 .ensures)
-    (asks (c .before .before .before .ask3 .ensures)
-    (asks (made-of (λ (p : Params). eqb (a .«public-key») (p .pk)) p (c3 .before .ask2 .ensures) refl)
-    (asks (made-of (λ (p : Params). eqb (a .«secret-key») (p .sk)) p (c3 .before .before .ask .ensures) refl) none))))))
+    (asks (c3 .ask3 .ensures)
+    (asks (made-of (λ (p : Params). eqb (a .«public-key») (p .pk)) is (c3 .before .ask2 .ensures) refl)
+    (asks (made-of (λ (p : Params). eqb (a .«secret-key») (p .sk)) is (c3 .before .before .ask .ensures) refl) none))))))
 
 pub keygen-answer-spec : {M : Type 1} → statement M
 keygen-answer-spec =

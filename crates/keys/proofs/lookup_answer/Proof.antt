@@ -16,10 +16,10 @@ returns : tie.Need-returns
 returns c =
     let row = row-of (c .before) in
     let a = row .before .args in
-    let p = row .set-params .ensures in
+    let is = row .set-params .ensures in
     asked (lookupQuestions (a .set) (a .«secret-key»))
-    (asks (made-of (λ (p : Params). ltb 0 (p .l)) p (c .ask2 .ensures) refl)
-    (asks (made-of (λ (p : Params). eqb (a .«secret-key») (p .sk)) p (c .before .ask .ensures) refl) none))
+    (asks (made-of (λ (p : Params). ltb 0 (p .l)) is (c .ask2 .ensures) refl)
+    (asks (made-of (λ (p : Params). eqb (a .«secret-key») (p .sk)) is (c .before .ask .ensures) refl) none))
 
 pub lookup-answer-spec : {M : Type 1} → statement M
 lookup-answer-spec =

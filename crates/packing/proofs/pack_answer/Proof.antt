@@ -9,8 +9,8 @@ use native.Mathlib.Nat.{one-mul}
 use borrow.Author.Needs.{needs}
 use lib.ListN.{take}
 use lib.Pow.{shl-exact}
-use Rattle.questions.specs.Answers.{Question, allBelow}
-use Rattle.questions.specs.Laws.Answers.{Asked, asked, all-yes, made-of, stops, goes-on}
+use Rattle.questions.specs.Answers.{Question, earliest, allBelow}
+use Rattle.questions.specs.Laws.Answers.{asked, all-yes, made-of, stops, goes-on}
 use Rattle.questions.specs.Laws.Answers.Asked.{asks, none}
 use Rattle.packing.specs.Packing.{packQuestions}
 use Rattle.packing.specs.Laws.Room.{Width, width-bounds}
@@ -23,16 +23,17 @@ start-of c = c .before .before .before .before
 abbrev questions : tie.After-ask2 → List Question
 questions c = let a = start-of c .args in packQuestions (a .width) (a .coefficients .now) (a .bytes)
 
-first : (c : tie.After-ask2) → Asked (take 2 (questions c)) (c .ask2 .result)
+first : (c : tie.After-ask2) → c .ask2 .result ≡ earliest (take 2 (questions c))
 first c =
-    asks (made-of (λ (b : Bool). b) (c .before .before .is-width .ensures) (c .ask2 .ensures) refl)
-    (asks (c .before .ask .ensures) none)
+    asked (take 2 (questions c))
+    (asks (made-of (λ (b : Bool). b) (c .before .before .is-width .ensures) (c .ask2 .ensures) refl)
+    (asks (c .before .ask .ensures) none))
 
 -- where both are answered yes the width is small
 width : (c : tie.Else1) → Width (start-of (c .before) .args .width)
 width c =
     let early = c .before in
-    width-bounds _ (all-yes (take 2 (questions early)) refl (asked (take 2 (questions early)) (first early)) (c .if1 .left) .0)
+    width-bounds _ (all-yes (take 2 (questions early)) refl (first early) (c .if1 .left) .0)
 
 power : (w : ℕ) → Width w → 1 * 2 ^ w % 2 ^ 32 ≡ 2 ^ w
 power w b = shl-exact 1 w 32 (omega (arith, b .most)) (omega arith) ∙ one-mul (2 ^ w)
@@ -42,7 +43,7 @@ returns-2 c =
     let below = c .before .before in
     let else = below .before in
     let a = start-of (else .before) .args in
-    goes-on 2 (questions (else .before)) (first (else .before)) refl (else .if1 .left)
+    goes-on 2 (questions (else .before)) refl (first (else .before)) (else .if1 .left)
     (asks (made-of (λ (n : ℕ). allBelow n (a .coefficients .now)) (power (a .width) (width else))
     (made-of (λ (b : Bool). b) (below .all-below .ensures) (c .ask4 .ensures) refl) refl)
     (asks (c .before .ask3 .ensures) none))

@@ -62,28 +62,21 @@ pub made-of :
     Asks (test q) number rest r
 made-of test e a t = record { is = a .is ∙ rw (t, e) }
 
-stops-at : (n : ℕ) (qs : List Question) {r : ℕ} → r ≡ earliest (take n qs) → (r ≡ 0 → ⊥) → r ≡ earliest qs
-unfolding earliest
-stops-at zero qs a h = absurd (h a)
-stops-at (suc n) [] a h = a
-stops-at (suc n) ((true, number) ∷ qs) a h = stops-at n qs a h
-stops-at (suc n) ((false, number) ∷ qs) a h = a
-
-goes-on-from :
-    (n : ℕ) (qs : List Question) {r s : ℕ} → numbered qs ≡ true → r ≡ earliest (take n qs) → r ≡ 0 → s ≡ earliest (drop n qs) → s ≡ earliest qs
-unfolding earliest
-goes-on-from zero qs h a z b = b
-goes-on-from (suc n) [] h a z b = b
-goes-on-from (suc n) ((true, number) ∷ qs) h a z b = goes-on-from n qs (and-right (ltb 0 number) (numbered qs) h) a z b
-goes-on-from (suc n) ((false, number) ∷ qs) h a z b = absurd (omega (arith, ltb-true 0 number (and-left (ltb 0 number) (numbered qs) h)))
-
 -- where the first n questions are asked by themselves, a no among them is the answer, and otherwise the later ones give it
-module _ (n : ℕ) (qs : List Question) {r : ℕ} (first : Asked (take n qs) r) where
-  pub stops : (r ≡ 0 → ⊥) → r ≡ earliest qs
-  stops h = stops-at n qs (asked (take n qs) first) h
+pub stops : (n : ℕ) (qs : List Question) {r : ℕ} → r ≡ earliest (take n qs) → (r ≡ 0 → ⊥) → r ≡ earliest qs
+unfolding earliest
+stops zero qs a h = absurd (h a)
+stops (suc n) [] a h = a
+stops (suc n) ((true, number) ∷ qs) a h = stops n qs a h
+stops (suc n) ((false, number) ∷ qs) a h = a
 
-  pub goes-on : {s : ℕ} → numbered qs ≡ true → r ≡ 0 → Asked (drop n qs) s → s ≡ earliest qs
-  goes-on h z later = goes-on-from n qs h (asked (take n qs) first) z (asked (drop n qs) later)
+pub goes-on :
+    (n : ℕ) (qs : List Question) {r s : ℕ} → numbered qs ≡ true → r ≡ earliest (take n qs) → r ≡ 0 → Asked (drop n qs) s → s ≡ earliest qs
+unfolding earliest
+goes-on zero qs h a z later = asked qs later
+goes-on (suc n) [] h a z later = asked [] later
+goes-on (suc n) ((true, number) ∷ qs) h a z later = goes-on n qs (and-right (ltb 0 number) (numbered qs) h) a z later
+goes-on (suc n) ((false, number) ∷ qs) h a z later = absurd (omega (arith, ltb-true 0 number (and-left (ltb 0 number) (numbered qs) h)))
 
 -- an answer of 0 writes an output, a refusal leaves it as it was
 pub accepted : {A : Type 0} (r : ℕ) (result old : A) → r ≡ 0 → result ≡ written r result old

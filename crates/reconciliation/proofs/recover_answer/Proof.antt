@@ -2,12 +2,12 @@
 use Prim.Native.Nat.{ℕ, _*_}
 use mathlib.Core.Bool.{Bool}
 use mathlib.Core.List.{List}
-use mathlib.Core.Path.{refl}
+use mathlib.Core.Path.{_≡_, refl}
 use borrow.Author.Needs.{needs}
 use lib.Dec.{ltb}
 use lib.ListN.{take}
-use Rattle.questions.specs.Answers.{Question, allBelow}
-use Rattle.questions.specs.Laws.Answers.{Asked, made-of, stops, goes-on}
+use Rattle.questions.specs.Answers.{Question, earliest, allBelow}
+use Rattle.questions.specs.Laws.Answers.{asked, made-of, stops, goes-on}
 use Rattle.questions.specs.Laws.Answers.Asked.{asks, none}
 use Rattle.sets.specs.declared.Params.{Params}
 use Rattle.sets.specs.Laws.Rows.{data-bound}
@@ -24,11 +24,12 @@ start-of c = c .before .before .before
 abbrev questions : tie.After-ask3 → List Question
 questions c = let a = start-of (row-of c) .args in recoverQuestions (a .set) (a .v .now) (a .«data» .now) (a .bits)
 
-first : (c : tie.After-ask3) → Asked (take 3 (questions c)) (c .ask3 .result)
+first : (c : tie.After-ask3) → c .ask3 .result ≡ earliest (take 3 (questions c))
 first c =
-    asks (made-of (λ (p : Params). ltb 0 (p .l)) (row-of c .set-params .ensures) (c .ask3 .ensures) refl)
+    asked (take 3 (questions c))
+    (asks (made-of (λ (p : Params). ltb 0 (p .l)) (row-of c .set-params .ensures) (c .ask3 .ensures) refl)
     (asks (c .before .ask2 .ensures)
-    (asks (c .before .before .ask .ensures) none))
+    (asks (c .before .before .ask .ensures) none)))
 
 returns-2 : tie.Need-returns-2
 returns-2 c =
@@ -36,7 +37,7 @@ returns-2 c =
     let early = below .before .before .before in
     let row = row-of early in
     let a = start-of row .args in
-    goes-on 3 (questions early) (first early) refl (below .before .before .if1 .left)
+    goes-on 3 (questions early) refl (first early) (below .before .before .if1 .left)
     (asks (made-of (λ (b : Bool). b) (below .before .all-below .ensures) (c .ask6 .ensures) refl)
     (asks (made-of (λ (n : ℕ). allBelow n (a .«data» .now)) (data-bound (a .set))
     (made-of (λ (p : Params). allBelow (2 * p .t) (a .«data» .now)) (row .set-params .ensures)

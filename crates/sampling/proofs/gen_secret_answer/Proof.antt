@@ -1,13 +1,13 @@
 -- `sampling::gen_secret_answer` meets its contract: it asks the questions of the definition.
-use mathlib.Core.Path.{refl}
 use Prim.Native.Nat.{_*_}
+use mathlib.Core.Path.{refl}
 use native.Mathlib.Omega.{arith}
-use Rattle.sets.specs.Laws.Rows.{few-rows}
 use borrow.Author.Needs.{needs}
 use lib.Dec.{eqb, ltb}
 use Rattle.questions.specs.Laws.Answers.{asked, made-of}
 use Rattle.questions.specs.Laws.Answers.Asked.{asks, none}
 use Rattle.sets.specs.declared.Params.{Params}
+use Rattle.sets.specs.Laws.Rows.{few-rows}
 use Rattle.sampling.specs.Sampling.{genSecretQuestions}
 use Rattle.sampling.proofs.gen_secret_answer.Statement.{statement}
 use Rattle.sampling.proofs.gen_secret_answer.Tie as tie
@@ -19,11 +19,11 @@ returns : tie.Need-returns
 returns c =
     let row = row-of (c .before .before) in
     let a = row .before .args in
-    let p = row .set-params .ensures in
+    let is = row .set-params .ensures in
     asked (genSecretQuestions (a .set) (a .seed) (a .secret))
-    (asks (made-of (λ (p : Params). ltb 0 (p .l)) p (c .ask3 .ensures) refl)
+    (asks (made-of (λ (p : Params). ltb 0 (p .l)) is (c .ask3 .ensures) refl)
     (asks (c .before .ask2 .ensures)
-    (asks (made-of (λ (p : Params). eqb (a .secret) (256 * p .l)) p (c .before .before .ask .ensures) refl) none)))
+    (asks (made-of (λ (p : Params). eqb (a .secret) (256 * p .l)) is (c .before .before .ask .ensures) refl) none)))
 
 pub gen-secret-answer-spec : {M : Type 1} → statement M
 gen-secret-answer-spec =
