@@ -1,7 +1,7 @@
 -- `saber::saber_public_key_offset` meets its contract: the calls give the definition's answer and row, and a row has few polynomials.
 use Prim.Native.Nat.{_*_}
-use native.Mathlib.Omega.{arith}
 use mathlib.Core.Path.{ap}
+use native.Mathlib.Omega.{arith}
 use borrow.Author.Needs.{needs}
 use Rattle.sets.specs.declared.Params.{Params}
 use Rattle.sets.specs.Laws.Rows.{few-rows}
@@ -13,9 +13,8 @@ returns : tie.Need-returns
 returns c =
     let row = c .before .before .before in
     let a = row .before .args in
-    let number = λ (p : Params). 416 * p .l in
-    found (a .set) (a .«secret-key») (number (row .set-params .result)) (c .before .before .lookup-answer .ensures) (c .or-zero .ensures)
-    (ap number (row .set-params .ensures))
+    found (a .set) (a .«secret-key») (416 * row .set-params .result .l) (c .before .before .lookup-answer .ensures) (c .or-zero .ensures)
+    (ap (λ (p : Params). 416 * p .l) (row .set-params .ensures))
 
 pub saber-public-key-offset-spec : {M : Type 1} → statement M
 saber-public-key-offset-spec =
