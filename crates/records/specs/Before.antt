@@ -1,53 +1,105 @@
--- Records as A1 has them, before A7: a door has two bytes, and no map has bit 4. `Laws/Before` says that old records read as before.
-use Prim.Native.Nat.{ℕ, _+_}
-use mathlib.Core.Bool.{Bool, _&&_}
+-- The record of A1, as it was before A7. Of today's definitions it takes the types of an entry and the way questions are asked, and nothing
+-- else, so that no later request changes it. `Laws/Before` says that old records read as before.
+use Prim.Native.Nat.{ℕ, zero, suc, _+_, _*_, _/_, _%_, _^_}
+use mathlib.Core.Bool.{Bool, true, cond, _&&_}
 use mathlib.Core.List.{List, [], _∷_, _++_}
-use mathlib.Core.Option.{Option, none, some, Option·getD}
 use lib.Dec.{eqb, ltb, leb}
-use lib.ListN.{length, getD, drop}
+use lib.ListN.{length, getD, take, drop}
 use Rattle.questions.specs.Answers.{Question, earliest}
-use Rattle.sets.specs.Sets.{paramsOf, known}
+use Rattle.records.specs.declared.Door.{Door}
+use Rattle.records.specs.declared.Door.the-variants as door
+use Rattle.records.specs.declared.Time.{Time}
+use Rattle.records.specs.declared.Time.the-variants as time
 use Rattle.records.specs.declared.Head.{Head}
-use Rattle.records.specs.Records.{Field, stands, takenBy, doorNumber, timeNumber, bitsOf, laid, mapIn, numbersIn, doorOf, timeOf}
 
--- door, time and set
-unfoldable pub fields : List Field
-fields = (0, 2) ∷ (1, 8) ∷ (2, 1) ∷ []
+-- "Byte 0 is a bit map": in an empty record it is 0. Bit k is 0 or 1, and 1 where it stands
+abbrev pub mapIn : List ℕ → ℕ
+mapIn s = getD s 0 0
 
-abbrev pub headLength : ℕ → ℕ
-headLength m = 1 + takenBy m fields
+abbrev pub bit : ℕ → ℕ → ℕ
+bit m k = m / 2 ^ k % 2
 
--- the record of an entry
-abbrev pub numbersOf : Head → List (Option ℕ)
-numbersOf h = doorNumber (h .door) ∷ timeNumber (h .time) ∷ some (h .set) ∷ []
+abbrev pub stands : ℕ → ℕ → Bool
+stands m k = eqb (bit m k) 1
 
-abbrev pub mapOf : Head → ℕ
-mapOf h = bitsOf fields (numbersOf h) + 8
+-- "only fields whose bit stands follow, in bit order": a door begins at 1, a time, the set and the capsule at these places
+abbrev pub timeAt : ℕ → ℕ
+timeAt m = 1 + bit m 0 * 2
 
-unfoldable pub recordOf : Head → List ℕ → List ℕ
-recordOf h ciphertext = mapOf h ∷ laid fields (numbersOf h) ++ ciphertext
+abbrev pub setAt : ℕ → ℕ
+setAt m = timeAt m + bit m 1 * 8
 
--- the head of the entry in a record, and its ciphertext
-abbrev pub headOf : List (Option ℕ) → Head
-headOf xs = record { door = doorOf (getD xs 0 none); time = timeOf (getD xs 1 none); set = Option·getD (getD xs 2 none) 0 }
+abbrev pub ciphertextAt : ℕ → ℕ
+ciphertextAt m = setAt m + bit m 2 * 1
 
-unfoldable pub headIn : List ℕ → Head
-headIn s = headOf (numbersIn (mapIn s) fields (drop 1 s))
+-- "little-endian": the number that bytes hold, and the n bytes of a number
+unfoldable pub number : List ℕ → ℕ
+number [] = 0
+number (b ∷ bs) = b + 256 * number bs
 
+unfoldable pub bytes : ℕ → ℕ → List ℕ
+bytes zero x = []
+bytes (suc n) x = x % 256 ∷ bytes n (x / 256)
+
+-- "Bit 0: door number, 2 bytes"
+abbrev pub doorIn : List ℕ → Door
+doorIn s = cond (stands (mapIn s) 0) (door.Number (number (take 2 (drop 1 s)))) door.Missing
+
+abbrev pub isDoor : Door → Bool
+isDoor door.Missing = true
+isDoor (door.Number x) = ltb x 65536
+
+-- "Bit 1: time, 8 bytes, any value"
+abbrev pub timeIn : List ℕ → Time
+timeIn s = cond (stands (mapIn s) 1) (time.Number (number (take 8 (drop (timeAt (mapIn s)) s)))) time.Missing
+
+-- "Bit 2: set, 1 byte, 1 to 3"
+abbrev pub setIn : List ℕ → ℕ
+setIn s = cond (stands (mapIn s) 2) (number (take 1 (drop (setAt (mapIn s)) s))) 0
+
+abbrev pub isSet : ℕ → Bool
+isSet set = ltb 0 set && ltb set 4
+
+-- "Bit 3: capsule, its set's length"
 abbrev pub ciphertextIn : List ℕ → List ℕ
-ciphertextIn s = drop (headLength (mapIn s)) s
+ciphertextIn s = drop (ciphertextAt (mapIn s)) s
 
--- the questions of a reader. 10: "an empty record or a map with bits 4 to 7 set or bit 2 or 3 clear"
+abbrev pub ciphertextLength : ℕ → ℕ
+ciphertextLength set = cond (eqb set 1) 736 (cond (eqb set 2) 1088 1472)
+
+-- "Door and time may be missing, set and capsule may not": the bit and the bytes of a door and of a time; a missing one has neither
+abbrev pub doorPart : Door → ℕ × List ℕ
+doorPart door.Missing = (0, [])
+doorPart (door.Number x) = (1, bytes 2 x)
+
+abbrev pub timePart : Time → ℕ × List ℕ
+timePart time.Missing = (0, [])
+timePart (time.Number x) = (2, bytes 8 x)
+
+-- "a writer": the record of an entry. 4 and 8 are the bits of the set and the capsule
+unfoldable pub recordOf : Head → List ℕ → List ℕ
+recordOf h ciphertext =
+    let d = doorPart (h .door) in
+    let t = timePart (h .time) in
+    (d .0 + t .0 + 4 + 8) ∷ d .1 ++ (t .1 ++ (h .set ∷ ciphertext))
+
+-- "and a reader": the head of the entry in a record
+abbrev pub headIn : List ℕ → Head
+headIn s = record { door = doorIn s; time = timeIn s; set = setIn s }
+
+-- "The reader refuses with 10 an empty record or a map with bits 4 to 7 set or bit 2 or 3 clear"
 abbrev pub isMap : ℕ → Bool
 isMap m = ltb m 16 && stands m 2 && stands m 3
 
-abbrev pub readQuestions : ℕ → ℕ → ℕ → ℕ → List Question
-readQuestions m set size ct =
-    (ltb 0 size, 10) ∷ (isMap m, 10)
-    ∷ (leb (headLength m) size, 11)
-    ∷ (ltb 0 set, 1) ∷ (known set, 1)
-    ∷ (eqb size (headLength m + paramsOf set .ct), 11)
-    ∷ (eqb ct (paramsOf set .ct), 9) ∷ []
+-- "then with 11 a length other than the map and set require (first too short for the set byte, then 1 for a bad set byte, then the total), and
+-- for both output lengths are asked last, with 9"
+abbrev pub readQuestions : List ℕ → ℕ → List Question
+readQuestions s ct =
+    (ltb 0 (length s), 10) ∷ (isMap (mapIn s), 10)
+    ∷ (leb (ciphertextAt (mapIn s)) (length s), 11)
+    ∷ (isSet (setIn s), 1)
+    ∷ (eqb (length s) (ciphertextAt (mapIn s) + ciphertextLength (setIn s)), 11)
+    ∷ (eqb ct (ciphertextLength (setIn s)), 9) ∷ []
 
 abbrev pub readAnswer : List ℕ → ℕ → ℕ
-readAnswer s ct = earliest (readQuestions (mapIn s) (headIn s .set) (length s) ct)
+readAnswer s ct = earliest (readQuestions s ct)

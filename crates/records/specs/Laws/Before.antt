@@ -1,44 +1,75 @@
 -- Laws of records from before A7: every record that was accepted then reads to the same entry as it did, and an entry that could be
 -- written then has the same record.
-use Prim.Native.Nat.{ℕ, _<_}
-use mathlib.Core.Bool.{Bool, not, _&&_}
-use mathlib.Core.List.{List}
-use mathlib.Core.Option.{Option, none, some, orElse}
-use mathlib.Core.Path.{_≡_, refl, ap, _∙_}
-use native.Mathlib.Nat.{zero-add}
+use Prim.Native.Nat.{ℕ, zero, suc, _+_, _<_}
+use mathlib.Core.Bool.{Bool, true, false, cond, not, _&&_}
+use mathlib.Core.List.{List, [], _∷_}
+use mathlib.Core.Option.{Option, none, some, Option·getD, orElse}
+use mathlib.Core.Path.{_≡_, refl, sym, ap, _∙_}
+use native.Mathlib.Nat.{add-zero, mod-eq-of-lt}
 use native.Mathlib.Omega.{arith}
-use lib.Dec.{ltb}
+use lib.Dec.{eqb, ltb}
 use lib.ListN.{length}
-use borrow.Author.Tests.{ltb-true, lt-ltb}
-use Rattle.lists.specs.Numbers.{digit}
-use Rattle.lists.specs.Laws.Booleans.{and-left, and-false}
-use Rattle.questions.specs.Answers.{earliest}
+use borrow.Author.Tests.{ltb-true, lt-ltb, le-ltb}
+use Rattle.lists.specs.Numbers.{number, digits, digit}
+use Rattle.lists.specs.Laws.Booleans.{and-left, and-right, and-false}
+use Rattle.questions.specs.Answers.{ask, earliest}
 use Rattle.questions.specs.Laws.Answers.{all-yes}
+use Rattle.sets.specs.Sets.{paramsOf, known}
+use Rattle.sets.specs.Laws.Rows.{unknown-from}
+use Rattle.records.specs.declared.Door.{Door}
+use Rattle.records.specs.declared.Door.the-variants as door
+use Rattle.records.specs.declared.Time.{Time}
+use Rattle.records.specs.declared.Time.the-variants as time
 use Rattle.records.specs.declared.Head.{Head}
 use Rattle.records.specs.declared.Read.{Read}
 use Rattle.records.specs.declared.Read.the-variants.{Entry}
-use Rattle.records.specs.Records.{fields, stands, takenBy, headLength, doorNumber, shortDoor, wideDoor, bitsOf, laid}
-use Rattle.records.specs.Records.{recordOf, mapIn, numbersIn, headIn, ciphertextIn, isMap, readAnswer, Fits}
+use Rattle.records.specs.Records.{fields, stands, takenBy, headLength, given, doorOf, timeOf, bitsOf, laid}
+use Rattle.records.specs.Records.{recordOf, mapIn, headIn, ciphertextIn, isMap, readAnswer}
 use Rattle.records.specs.Before as before
 use Rattle.records.specs.Promises.{Retrieved}
 use Rattle.records.specs.Laws.Doors.{is-short}
+use Rattle.records.specs.Laws.Steps.{head-steps}
 
-or-none : (o : Option ℕ) → orElse o none ≡ o
-unfolding orElse
-or-none none = refl
-or-none (some x) = refl
+-- bytes hold the number that they held
+number-is : (bs : List ℕ) → before.number bs ≡ number 256 bs
+unfolding number before.number
+number-is [] = refl
+number-is (b ∷ bs) = rw (number-is bs)
+
+-- what is made of a field, where its bit stands and where it does not
+field-is : {A : Type 0} (f : Option ℕ → A) (b : Bool) {x y : ℕ} → x ≡ y → cond b (f (some x)) (f none) ≡ f (given b y)
+field-is f true e = ap (λ n. f (some n)) e
+field-is f false e = refl
+
+-- a set byte of 1 to 3 has its ciphertext's length, and any other is refused with 1
+set-as-before :
+    (set : ℕ) (rest : ℕ → ℕ) →
+    ask (ltb 0 set) 1 (ask (known set) 1 (rest (paramsOf set .ct))) ≡ ask (before.isSet set) 1 (rest (before.ciphertextLength set))
+unfolding paramsOf
+set-as-before zero rest = refl
+set-as-before (suc zero) rest = refl
+set-as-before (suc (suc zero)) rest = refl
+set-as-before (suc (suc (suc zero))) rest = refl
+set-as-before (suc (suc (suc (suc n)))) rest =
+    let set = suc (suc (suc (suc n))) in
+    rw (unknown-from set (omega arith), lt-ltb 0 set (omega arith), le-ltb set 4 (omega arith))
 
 -- a string whose map has bits 0 to 3 alone
-module _ (s : List ℕ) (h : mapIn s < 16) where
+module _ (s : List ℕ) (h : before.mapIn s < 16) where
   no-wide : digit 2 (mapIn s) 4 ≡ 0
   no-wide = omega arith
 
   pub head-as-before : headIn s ≡ before.headIn s
-  unfolding headIn numbersIn fields before.headIn before.fields
-  head-as-before = rw (no-wide, or-none _)
+  unfolding orElse
+  head-as-before =
+      let m = mapIn s in
+      let door = field-is (λ o. doorOf (orElse o none)) (stands m 0) (number-is _) in
+      let time = field-is timeOf (stands m 1) (number-is _) in
+      let set = field-is (λ o. Option·getD o 0) (stands m 2) (number-is _) in
+      sym (head-steps s refl refl (sym no-wide) refl (rw no-wide door) (rw add-zero time) (rw add-zero set))
 
-  length-as-before : headLength (mapIn s) ≡ before.headLength (mapIn s)
-  unfolding takenBy fields before.fields
+  length-as-before : headLength (mapIn s) ≡ before.ciphertextAt (mapIn s)
+  unfolding takenBy fields
   length-as-before = omega (arith, no-wide)
 
   pub rest-as-before : ciphertextIn s ≡ before.ciphertextIn s
@@ -54,16 +85,17 @@ module _ (s : List ℕ) (h : mapIn s < 16) where
   pub answer-as-before : (ct : ℕ) → readAnswer s ct ≡ before.readAnswer s ct
   unfolding earliest
   answer-as-before ct =
-      rw (head-as-before, length-as-before, map-as-before, no-wide)
+      let n = before.ciphertextAt (mapIn s) in
+      rw (head-as-before, length-as-before, map-as-before, no-wide, set-as-before (before.setIn s) (λ k. ask (eqb (length s) (n + k)) 11 (ask (eqb ct k) 9 0)))
 
 -- every record that was accepted reads to the same entry as before
 pub read-as-before :
     (s : List ℕ) (ct : ℕ) → before.readAnswer s ct ≡ 0 →
     (readAnswer s ct ≡ 0) × (headIn s ≡ before.headIn s) × (ciphertextIn s ≡ before.ciphertextIn s)
 read-as-before s ct z =
-    let y = all-yes (before.readQuestions (mapIn s) (before.headIn s .set) (length s) ct) refl refl z in
-    let few = ltb (mapIn s) 16 in
-    let h = ltb-true (mapIn s) 16 (and-left few _ (and-left (few && stands (mapIn s) 2) _ (y .1 .0))) in
+    let y = all-yes (before.readQuestions s ct) refl refl z in
+    let m = before.mapIn s in
+    let h = ltb-true m 16 (and-left (ltb m 16) _ (and-left (ltb m 16 && before.stands m 2) _ (y .1 .0))) in
     (answer-as-before s h ct ∙ z, head-as-before s h, rest-as-before s h)
 
 -- the same of a call that keeps its promise
@@ -75,11 +107,17 @@ call-as-before s old {r} z g =
     let e : r ≡ Entry (before.headIn s) = g .answers ∙ rw (w .0, w .1) in
     (e, g .writes ∙ rw e (w .2))
 
-short-fields : (o : Option ℕ) → Fits 2 o → (shortDoor o ≡ o) × (wideDoor o ≡ none)
-short-fields none f = (refl, refl)
-short-fields (some x) f = is-short x f
+-- an entry that A1 has, its door missing or of two bytes and its set 1 to 3, is written as before
+written-parts :
+    (d : Door) (t : Time) (n : ℕ) (c : List ℕ) → before.isDoor d ≡ true → n < 256 →
+    let h : Head = record { door = d; time = t; set = n } in recordOf h c ≡ before.recordOf h c
+unfolding recordOf fields bitsOf laid digits before.recordOf before.bytes
+written-parts door.Missing time.Missing n c e l = rw (mod-eq-of-lt l)
+written-parts door.Missing (time.Number y) n c e l = rw (mod-eq-of-lt l)
+written-parts (door.Number x) time.Missing n c e l = let f = is-short x (ltb-true x 65536 e) in rw (f .0, f .1, mod-eq-of-lt l)
+written-parts (door.Number x) (time.Number y) n c e l = let f = is-short x (ltb-true x 65536 e) in rw (f .0, f .1, mod-eq-of-lt l)
 
--- an entry without a door, or with one of two bytes, is written as before
-pub written-as-before : (h : Head) (c : List ℕ) → Fits 2 (doorNumber (h .door)) → recordOf h c ≡ before.recordOf h c
-unfolding recordOf fields bitsOf laid before.recordOf before.fields
-written-as-before h c f = let e = short-fields (doorNumber (h .door)) f in rw (e .0, e .1, zero-add)
+pub written-as-before :
+    (h : Head) (c : List ℕ) → before.isDoor (h .door) ≡ true → before.isSet (h .set) ≡ true → recordOf h c ≡ before.recordOf h c
+written-as-before h c d n =
+    written-parts (h .door) (h .time) (h .set) c d (omega (arith, ltb-true (h .set) 4 (and-right (ltb 0 (h .set)) _ n)))
