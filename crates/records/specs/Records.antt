@@ -1,6 +1,6 @@
 -- Document 02, A1 and A7: the record of a sealed entry. Byte 0 is a bit map, and only the fields whose bit stands follow, in bit order,
 -- little-endian; a wide door, bit 4, stands where the short one would.
-use Prim.Native.Nat.{ℕ, zero, suc, _+_, _*_, _^_, _<_}
+use Prim.Native.Nat.{ℕ, _+_, _*_, _^_, _<_}
 use mathlib.Core.Bool.{Bool, true, false, not, _&&_}
 use mathlib.Core.List.{List, [], _∷_, _++_}
 use mathlib.Core.Option.{Option, none, some, Option·getD, orElse}
@@ -174,15 +174,16 @@ doorOrZero d = Option·getD (doorNumber d) 0
 abbrev pub readAnswer : List ℕ → ℕ → ℕ
 readAnswer s ct = earliest (readQuestions (mapIn s) (doorOrZero (headIn s .door)) (headIn s .set) (length s) ct)
 
--- what reading gives, by its answer: the head of the entry where that is 0, and else the refusal alone
-abbrev pub readOf : ℕ → Head → Read
-readOf zero h = Entry h
-readOf (suc n) h = Refused (suc n)
-
--- the number that each case of it answers
+-- Document 01: "If an answer is an enum, a definition states this paper's number and values for each of its cases". The number of what a read
+-- gives: 0 for an entry, its own for a refusal
 abbrev pub answerOf : Read → ℕ
 answerOf (Entry h) = 0
 answerOf (Refused n) = n
+
+-- and its values: the head of an entry, and none for a refusal
+abbrev pub valuesOf : Read → Option Head
+valuesOf (Entry h) = some h
+valuesOf (Refused n) = none
 
 -- One encoding for each entry
 

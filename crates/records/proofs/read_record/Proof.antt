@@ -20,6 +20,23 @@ room c =
     let a = head .before .before .before .before .args in
     read-room (a .«record» .now) (a .ciphertext .now) (head .before .map-in .ensures) (head .head-in .ensures) (c .before .read-answer .ensures) (c .if1 .left)
 
+-- a refusal has its number and no values
+returns : tie.Need-returns
+returns c =
+    let head = c .before .before in
+    let a = head .before .before .before .before .args in
+    read-refused (a .«record» .now) (a .ciphertext .now) (head .before .map-in .ensures) (head .head-in .ensures) (c .before .read-answer .ensures) (c .if1 .taken)
+
+-- an entry has its head
+returns-2 : tie.Need-returns-2
+returns-2 c =
+    let copy = c .before .before in
+    let long = copy .before .before .before in
+    let head = long .before .before .before in
+    let a = head .before .before .before .before .args in
+    read-done (a .«record» .now) (a .ciphertext .now) (head .before .map-in .ensures) (head .head-in .ensures)
+    (long .before .before .read-answer .ensures) (long .before .if1 .left) (long .head-length .ensures) (copy .copy-at .ensures)
+
 pub read-record-spec : {M : Type 1} → statement M
 read-record-spec =
     tie.close
@@ -27,11 +44,11 @@ read-record-spec =
     (λ c κs. search needs)
     (λ c κs. search needs)
     (λ c κs. search needs)
-    (λ c. search read-refused)
+    returns
     (λ c κs. search needs)
     (λ c. omega (arith, room (c .before)))
     (λ c. omega (arith, room (c .before)))
     (λ c. search needs)
     (λ c κs. search read-fits)
     (λ c. search needs)
-    (λ c. search read-done))
+    returns-2)

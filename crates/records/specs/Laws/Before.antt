@@ -29,6 +29,7 @@ use Rattle.records.specs.Before as before
 use Rattle.records.specs.Promises.{Retrieved}
 use Rattle.records.specs.Laws.Doors.{is-short}
 use Rattle.records.specs.Laws.Steps.{head-steps}
+use Rattle.records.specs.Laws.Calls.{given-back}
 
 -- bytes hold the number that they held
 number-is : (bs : List ℕ) → before.number bs ≡ number 256 bs
@@ -104,7 +105,7 @@ pub call-as-before :
     (r ≡ Entry (before.headIn s)) × (ct' ≡ before.ciphertextIn s)
 call-as-before s old {r} z g =
     let w = read-as-before s (length old) z in
-    let e : r ≡ Entry (before.headIn s) = g .answers ∙ rw (w .0, w .1) in
+    let e : r ≡ Entry (before.headIn s) = given-back s old g ∙ rw (w .0, w .1) in
     (e, g .writes ∙ rw e (w .2))
 
 -- an entry that A1 has, its door missing or of two bytes and its set 1 to 3, is written as before

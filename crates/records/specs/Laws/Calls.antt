@@ -1,7 +1,7 @@
 -- Laws of the two calls: with its steps made each keeps its promise, and what one writes the other reads.
 use Prim.Native.Nat.{ℕ, zero, suc, _+_, _-_, _<_, _≤_}
 use mathlib.Core.List.{List, [], _∷_, _++_, append-assoc}
-use mathlib.Core.Option.{Option}
+use mathlib.Core.Option.{Option, none, some}
 use mathlib.Core.Path.{_≡_, refl, sym, ap, _∙_}
 use native.Mathlib.Nat.{mod-eq-of-lt}
 use native.Mathlib.Omega.{arith}
@@ -12,7 +12,7 @@ use Rattle.lists.specs.Strings.{placed}
 use Rattle.lists.specs.Laws.Numbers.{length-digits}
 use Rattle.lists.specs.Laws.Parts.{last-part}
 use Rattle.lists.specs.Laws.Strings.{placed-whole}
-use Rattle.questions.specs.Answers.{earliest}
+use Rattle.questions.specs.Answers.{earliest, written}
 use Rattle.questions.specs.Laws.Answers.{all-yes, refused, wrote, wrote-none}
 use Rattle.sets.specs.declared.Params.{Params}
 use Rattle.sets.specs.Sets.{paramsOf}
@@ -23,7 +23,7 @@ use Rattle.records.specs.declared.Read.{Read}
 use Rattle.records.specs.declared.Read.the-variants.{Entry, Refused}
 use Rattle.records.specs.declared.Part.{Part}
 use Rattle.records.specs.Records.{Field, fields, headLength, doorNumber, timeNumber, shortDoor, wideDoor, numbersOf, bitsOf, laid}
-use Rattle.records.specs.Records.{mapOf, headed, recordOf, writeQuestions, headIn, readQuestions, doorOrZero, readAnswer, readOf, Fits}
+use Rattle.records.specs.Records.{mapOf, headed, recordOf, writeQuestions, headIn, readQuestions, doorOrZero, readAnswer, answerOf, valuesOf, Fits}
 use Rattle.records.specs.Promises.{Recorded, Retrieved}
 use Rattle.records.specs.Rooms.{Lays, WriteRoom, Readable}
 use Rattle.records.specs.Laws.Fields.{length-laid}
@@ -31,17 +31,13 @@ use Rattle.records.specs.Laws.Records.{mapped, readable, read-written, w
 
 -- Reading
 
-refusal : (a : ℕ) (h : Head) → (a ≡ 0 → ⊥) → Refused a ≡ readOf a h
-refusal zero h n = absurd (n refl)
-refusal (suc a) h n = refl
-
 module _ (s old : List ℕ) {m r : ℕ} {h : Head} (im : m ≡ getD s 0 0) (ih : h ≡ headIn s)
     (a : r ≡ earliest (readQuestions m (doorOrZero (h .door)) (h .set) (length s) (length old))) where
   answer-is : r ≡ readAnswer s (length old)
   answer-is = a ∙ rw (im, ih)
 
   pub read-refused : (r ≡ 0 → ⊥) → Retrieved s old (Refused r) old
-  read-refused n = record { answers = ap Refused answer-is ∙ refusal _ (headIn s) (λ z. n (answer-is ∙ z)); writes = refused r _ old n }
+  read-refused n = record { answers = answer-is; gives = refused r _ none n; writes = refused r _ old n }
 
   pub read-room : r ≡ 0 → Readable m (doorOrZero (h .door)) (h .set) (length s) (length old)
   read-room z = readable m (doorOrZero (h .door)) (h .set) (length s) (length old) a z
@@ -60,7 +56,27 @@ module _ (s old : List ℕ) {m r : ℕ} {h : Head} (im : m ≡ getD s 0 0) (ih :
     pub read-done : {new : List ℕ} → new ≡ placed 0 (take (length s - e) (drop e s)) old → Retrieved s old (Entry h) new
     read-done p =
         let copied : placed 0 (take (length s - e) (drop e s)) old ≡ drop e s = rw part-is (placed-whole (drop e s) old (sym rest-long)) in
-        record { answers = ap Entry ih ∙ rw (← answer-is, z); writes = p ∙ copied ∙ rw (ie, im) }
+        record { answers = sym z ∙ answer-is; gives = ap some ih; writes = p ∙ copied ∙ rw (ie, im) }
+
+-- the entry of a head where the answer is 0, and else the refusal with that number
+abbrev pub readOf : ℕ → Head → Read
+readOf zero h = Entry h
+readOf (suc n) h = Refused (suc n)
+
+-- a number and values say together what is given back; `Refused 0` is excluded, since it has no values
+by-parts : (r : Read) (h : Head) → valuesOf r ≡ written (answerOf r) (some h) none → r ≡ readOf (answerOf r) h
+by-parts (Entry g) h e = cc
+by-parts (Refused zero) h e = cc
+by-parts (Refused (suc n)) h e = refl
+
+-- so the promise says exactly what is given back
+pub given-back : (s old : List ℕ) {r : Read} {ct' : List ℕ} → Retrieved s old r ct' → r ≡ readOf (readAnswer s (length old)) (headIn s)
+given-back s old {r} g = by-parts r (headIn s) (g .gives) ∙ ap (λ (a : ℕ). readOf a (headIn s)) (g .answers)
+
+-- a refusal that is given back has a number other than 0
+pub refusal-given : (s old : List ℕ) (n : ℕ) {ct' : List ℕ} → Retrieved s old (Refused n) ct' → n ≡ 0 → ⊥
+refusal-given s old zero g e = let z : _≡_ {A = ℕ} 0 1 = cc in omega arith
+refusal-given s old (suc n) g e = omega arith
 
 -- Writing
 
@@ -113,15 +129,6 @@ module _ (d : Door) (t : Time) (set : ℕ) {p q : Part}
 
 -- One after the other
 
--- the answer to a read that gives an entry, and to one that is refused
-pub entry-given : (a : ℕ) (h g : Head) → Entry h ≡ readOf a g → (a ≡ 0) × (h ≡ g)
-entry-given zero h g e = (refl, (cc))
-entry-given (suc a) h g e = let z : _≡_ {A = ℕ} 0 1 = cc in absurd (omega arith)
-
-pub refusal-given : (a n : ℕ) (g : Head) → Refused n ≡ readOf a g → (n ≡ a) × (n ≡ 0 → ⊥)
-refusal-given zero n g e = let z : _≡_ {A = ℕ} 0 1 = cc in absurd (omega arith)
-refusal-given (suc a) n g e = let is : n ≡ suc a = cc in (is, λ z. omega arith)
-
 -- what was written is read back: the same door and time, the set that its number means and the same ciphertext
 pub read-back :
     (d : Door) (t : Time) (set : ℕ) (c old ct : List ℕ) {new ct' : List ℕ} {r : Read} → Fits 4 (doorNumber d) → Fits 8 (timeNumber t) →
@@ -131,7 +138,7 @@ read-back d t set c old ct {new} {ct'} {r} fd ft l w g =
     let y = all-yes (writeQuestions (mapOf h) set (length c) (length old)) refl (w .answers) refl in
     let k = read-written d t set c fd ft (y .0) (eqb-true (length c) (paramsOf set .ct) (y .1 .0)) in
     let a : readAnswer new (length ct) ≡ 0 = rw (l, w .writes) (k .accepted) in
-    let e : r ≡ Entry h = g .answers ∙ rw (a, w .writes, k .head) in
+    let e : r ≡ Entry h = given-back new ct g ∙ rw (a, w .writes, k .head) in
     (e, g .writes ∙ rw (e, w .writes) (k .rest))
 
 -- what was read is written again: the same bytes
@@ -139,7 +146,8 @@ pub write-back :
     (s old lent : List ℕ) {h : Head} {ct new : List ℕ} {r : ℕ} → Below 256 s → length lent ≡ length s → Retrieved s old (Entry h) ct →
     Recorded (h .door) (h .time) (h .set) ct lent r new → (r ≡ 0) × (new ≡ s)
 write-back s old lent {h} {ct} {new} {r} b l g w =
-    let e = entry-given (readAnswer s (length old)) h (headIn s) (g .answers) in
-    let a = write-accepts s (length old) b (e .0) in
-    let z : r ≡ 0 = w .answers ∙ rw (l, g .writes, e .1, a .0) (a .1) in
-    (z, w .writes ∙ rw (z, g .writes, e .1, a .0) (written-read s (length old) b (e .0)))
+    let read = sym (g .answers) in
+    let is : h ≡ headIn s = cc in
+    let a = write-accepts s (length old) b read in
+    let z : r ≡ 0 = w .answers ∙ rw (l, g .writes, is, a .0) (a .1) in
+    (z, w .writes ∙ rw (z, g .writes, is, a .0) (written-read s (length old) b read))

@@ -2,16 +2,15 @@
 use Prim.Native.Nat.{ℕ, zero, suc}
 use mathlib.Core.List.{List}
 use mathlib.Core.Option.{some}
-use mathlib.Core.Path.{_≡_, refl, sym, _∙_}
-use lib.ListN.{length}
+use mathlib.Core.Path.{_≡_, refl, _∙_}
 use Rattle.questions.specs.Laws.Answers.{refused}
 use Rattle.records.specs.declared.Door.{Door}
 use Rattle.records.specs.declared.Time.{Time}
 use Rattle.records.specs.declared.Head.{Head}
 use Rattle.records.specs.declared.Read.{Read}
-use Rattle.records.specs.Records.{doorNumber, timeNumber, headIn, readAnswer}
+use Rattle.records.specs.Records.{doorNumber, timeNumber, headIn}
 use Rattle.records.specs.Promises.{Recorded, Retrieved}
-use Rattle.records.specs.Laws.Calls.{entry-given, refusal-given}
+use Rattle.records.specs.Laws.Calls.{refusal-given}
 use Rattle.saber.specs.Numbers.{flagged, flagOf, orOld}
 use Rattle.saber.specs.Promises.{ReadInto}
 
@@ -34,26 +33,28 @@ module _ (s ct : List ℕ) (hasDoor door hasTime time set : ℕ) {r : Read} {ct'
       (hasTime' ≡ flagOf (timeNumber (h .time))) × (time' ≡ orOld (timeNumber (h .time)) time) →
       ReadInto s hasDoor door hasTime time set ct 0 hasDoor' door' hasTime' time' (h .set) ct'
   read-entry {h} is d t =
-      let e = entry-given (readAnswer s (length ct)) h (headIn s) (sym is ∙ w .answers) in
+      let g = rw is at w in
+      let e : h ≡ headIn s = cc in
       record {
-        answers = sym (e .0);
-        doorFlag = d .0 ∙ rw (e .1);
-        doorIs = d .1 ∙ rw (e .1);
-        timeFlag = t .0 ∙ rw (e .1);
-        timeIs = t .1 ∙ rw (e .1);
-        setIs = rw (e .1);
-        writes = w .writes ∙ rw is;
+        answers = g .answers;
+        doorFlag = d .0 ∙ rw e;
+        doorIs = d .1 ∙ rw e;
+        timeFlag = t .0 ∙ rw e;
+        timeIs = t .1 ∙ rw e;
+        setIs = rw e;
+        writes = g .writes;
       }
 
   pub read-refusal : {n : ℕ} → r ≡ Read.Refused n → ReadInto s hasDoor door hasTime time set ct n hasDoor door hasTime time set ct'
   read-refusal {n} is =
-      let e = refusal-given (readAnswer s (length ct)) n (headIn s) (sym is ∙ w .answers) in
+      let g = rw is at w in
+      let e = refusal-given s ct n g in
       record {
-        answers = e .0;
-        doorFlag = refused n _ hasDoor (e .1);
-        doorIs = refused n _ door (e .1);
-        timeFlag = refused n _ hasTime (e .1);
-        timeIs = refused n _ time (e .1);
-        setIs = refused n _ set (e .1);
-        writes = w .writes ∙ rw is;
+        answers = g .answers;
+        doorFlag = refused n _ hasDoor e;
+        doorIs = refused n _ door e;
+        timeFlag = refused n _ hasTime e;
+        timeIs = refused n _ time e;
+        setIs = refused n _ set e;
+        writes = g .writes;
       }
