@@ -41,7 +41,7 @@ unfoldable pub bytes : ℕ → ℕ → List ℕ
 bytes zero x = []
 bytes (suc n) x = x % 256 ∷ bytes n (x / 256)
 
--- "Bit 0: door number, 2 bytes"
+-- "Bit 0: door number, 2 bytes": the door in a record, and which doors there are
 abbrev pub doorIn : List ℕ → Door
 doorIn s = cond (stands (mapIn s) 0) (door.Number (number (take 2 (drop 1 s)))) door.Missing
 
@@ -49,18 +49,18 @@ abbrev pub isDoor : Door → Bool
 isDoor door.Missing = true
 isDoor (door.Number x) = ltb x 65536
 
--- "Bit 1: time, 8 bytes, any value"
+-- "Bit 1: time, 8 bytes, any value": the time in a record
 abbrev pub timeIn : List ℕ → Time
 timeIn s = cond (stands (mapIn s) 1) (time.Number (number (take 8 (drop (timeAt (mapIn s)) s)))) time.Missing
 
--- "Bit 2: set, 1 byte, 1 to 3"
+-- "Bit 2: set, 1 byte, 1 to 3": the set in a record, and which sets there are
 abbrev pub setIn : List ℕ → ℕ
 setIn s = cond (stands (mapIn s) 2) (number (take 1 (drop (setAt (mapIn s)) s))) 0
 
 abbrev pub isSet : ℕ → Bool
 isSet set = ltb 0 set && ltb set 4
 
--- "Bit 3: capsule, its set's length"
+-- "Bit 3: capsule, its set's length": the capsule in a record, and the length that a set gives it
 abbrev pub ciphertextIn : List ℕ → List ℕ
 ciphertextIn s = drop (ciphertextAt (mapIn s)) s
 
