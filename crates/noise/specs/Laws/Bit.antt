@@ -43,6 +43,7 @@ module _
       let x = pos v -ℤ pos (g * dataOf g w) +ℤ pos added in
       let o = offset g N (w % g) in
       let c = same-residue 1024 (omega arith) (o +ℤ pos 512) in
+      let adds : added + g / 2 ≡ 256 = fit .adds in
       mod-of 1024 (omega arith) {x = x} {y = pos (modℤ (o +ℤ pos 512) 1024 + 768 + 512 * m)}
       (record {
         less = agree .less + c .less + 1 + m;
