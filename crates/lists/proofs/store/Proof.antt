@@ -23,6 +23,6 @@ store-spec =
     (λ c. search needs)
     (λ c. search needs)
     (λ c. search needs)
-    (λ c. fill-more (omega arith) (c .before .loop .inv) (rw (pow-mul 8)))
+    (λ c. fill-more (omega arith) (c .before .loop .inv) (rw (pow-mul 8) refl))
     (λ c. c .before .loop .inv .size)
     (λ c. fill-all (omega arith) (c .before .loop .inv) ∙ sym (digits-from 256 _ _)))
