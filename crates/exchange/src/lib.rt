@@ -102,30 +102,23 @@ pub fn vector_into(transposed: bool, l: usize, seed: &[u8], secret: &[u16], out:
 }
 
 // The inner product, modulo 1024, of a packed vector and a secret.
-pub fn inner_into(l: usize, packed: &[u8], secret: &[u16], v: &mut [u16; 256])
+pub fn inner(l: usize, packed: &[u8], secret: &[u16]) -> [u16; 256]
     requires { ⌜ InnerRoom l (length (now packed)) (length (now secret)) ⌝ }
-    ensures { λ _. ⌜ now (v .exit) ≡ innerMod 1024 l (unpacked 10 (now (packed .entry))) (nat (now (secret .entry))) ⌝ }
+    ensures { λ r. ⌜ r ≡ innerMod 1024 l (unpacked 10 (now (packed .entry))) (nat (now (secret .entry))) ⌝ }
 {
     let mut vector = [0u16; 1024];
     let mut work = [0u16; 2120];
     let n = 256 * l;
-    rows::inner_into(l, packed, secret, &mut vector[0..n], &mut work, v);
+    rows::inner(l, packed, secret, &mut vector[0..n], &mut work)
 }
 
-// Both products of encryption with one secret, in the same places: b', at the front of the output, and the inner product v of the packed vector b
-// and the secret.
-pub fn both_into(
-    l: usize,
-    seed: &[u8],
-    vector: &[u8],
-    secret: &[u16],
-    out: &mut [u8],
-    v: &mut [u16; 256],
-)
+// Both products of encryption with one secret, in the same places: b', at the front of the output, and the inner product of the packed vector b and
+// the secret, which is returned.
+pub fn both_into(l: usize, seed: &[u8], vector: &[u8], secret: &[u16], out: &mut [u8]) -> [u16; 256]
     requires { ⌜ VectorRoom l (length (now secret)) (length (now out)) × InnerRoom l (length (now vector)) (length (now secret)) ⌝ }
-    ensures { λ _. ⌜ (now (out .exit)
+    ensures { λ r. ⌜ (now (out .exit)
         ≡ placed 0 (packed 10 (roundedVector false l (now (seed .entry)) (nat (now (secret .entry))))) (now (out .entry)))
-        × (now (v .exit) ≡ innerMod 1024 l (unpacked 10 (now (vector .entry))) (nat (now (secret .entry)))) ⌝ }
+        × (r ≡ innerMod 1024 l (unpacked 10 (now (vector .entry))) (nat (now (secret .entry)))) ⌝ }
 {
     let mut matrix = [0u8; 6656];
     let mut cut = [0u16; 1024];
@@ -144,5 +137,5 @@ pub fn both_into(
         &mut exact,
         out,
     );
-    rows::inner_into(l, vector, secret, &mut cut[0..e], &mut work, v);
+    rows::inner(l, vector, secret, &mut cut[0..e], &mut work)
 }

@@ -46,17 +46,16 @@ fn product_with(
     cut: &mut [u16],
     exact: &mut [u16],
     work: &mut [u16],
-    out: &mut [u16; 256],
-)
+) -> [u16; 256]
     requires { ⌜ ProductSpace l (length (now matrix)) (length (now s)) (length (now t)) (length (now cut)) (length (now exact))
         (length (now work)) ⌝ }
-    ensures { λ _. ⌜ now (out .exit)
+    ensures { λ r. ⌜ r
         ≡ residues 65536 (inner 256 l (errors 256 l (side transposed l (unpacked 13 (now (matrix .entry)))) (poly (nat (now (s .entry)))))
         (poly (nat (now (t .entry))))) ⌝ }
 {
     rows::product_into(transposed, l, matrix, s, cut, work, exact);
     errors_in(exact);
-    rows::inner_words_into(l, exact, t, work, out);
+    rows::inner_words(l, exact, t, work)
 }
 
 // The size of the number near zero whose residue is x - y.
@@ -106,32 +105,10 @@ fn noise_size_with(
         (length (now exact)) (length (now work)) ⌝ }
     ensures { λ r. ⌜ r ≡ largest (noise 256 l (entry l (unpacked 13 (now (matrix .entry)))) (poly (now (s .entry))) (poly (now (t .entry)))) ⌝ }
 {
-    let mut left = [0u16; 256];
-    let mut right = [0u16; 256];
     weights::words_into(s, s_words);
     weights::words_into(t, t_words);
-    product_with(
-        false,
-        l,
-        matrix,
-        t_words,
-        s_words,
-        cut,
-        exact,
-        work,
-        &mut left,
-    );
-    product_with(
-        true,
-        l,
-        matrix,
-        s_words,
-        t_words,
-        cut,
-        exact,
-        work,
-        &mut right,
-    );
+    let left = product_with(false, l, matrix, t_words, s_words, cut, exact, work);
+    let right = product_with(true, l, matrix, s_words, t_words, cut, exact, work);
     largest_of(&left, &right)
 }
 

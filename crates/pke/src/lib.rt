@@ -53,15 +53,13 @@ pub fn encrypt_with(
 {
     let e = 320 * p.l;
     let key = p.pk;
-    let mut v = [0u16; 256];
     sampling::secret_residues_into(p.l, p.mu, seed, secret);
-    exchange::both_into(
+    let v = exchange::both_into(
         p.l,
         &public_key[e..key],
         &public_key[0..e],
         secret,
         ciphertext,
-        &mut v,
     );
     data_at(ciphertext, e, p, &v, message);
 }
@@ -79,9 +77,8 @@ pub fn decrypt_with(
 {
     let e = 320 * p.l;
     let end = p.ct;
-    let mut v = [0u16; 256];
     packing::unpack_into(13, plain_secret, secret);
-    exchange::inner_into(p.l, &ciphertext[0..e], secret, &mut v);
+    let v = exchange::inner(p.l, &ciphertext[0..e], secret);
     message_into(p, &v, &ciphertext[e..end], message);
 }
 

@@ -28,17 +28,16 @@ pub record SumsRoom (w rows l bytes start row column s cut work out : ℕ) : Typ
   pub space : 1256 * rows + 864 ≤ work
   pub room : out ≡ 256 * rows
 
--- what `inner_words_into` asks: two vectors, places to work in and for the product
-pub record WordsRoom (l a s work out : ℕ) : Type 0 where
+-- what `inner_words` asks: two vectors, and places to work in
+pub record WordsRoom (l a s work : ℕ) : Type 0 where
   pub first : a ≡ 256 * l
   pub second : s ≡ 256 * l
   pub space : 2120 ≤ work
-  pub room : out ≡ 256
 
--- what `inner_into` asks: a packed vector and another; places for the first one, to work in and for the product
-pub record InnerRoom (l vector s words work out : ℕ) : Type 0 where
+-- what `inner` asks: a packed vector and another; places for the first one and to work in
+pub record InnerRoom (l vector s words work : ℕ) : Type 0 where
   pub packed : vector ≡ 320 * l
-  pub room : WordsRoom l words s work out
+  pub room : WordsRoom l words s work
 
 -- what `rows_into` asks: up to three rows of a matrix, from `first` on; a vector; places for a polynomial of each, to work in at three rows, and
 -- for the products

@@ -60,38 +60,33 @@ fn sums_into(
     }
 }
 
-// The inner product of two vectors of l polynomials, modulo 65536. The caller lends the places to work in.
-pub fn inner_words_into(l: usize, a: &[u16], s: &[u16], work: &mut [u16], out: &mut [u16])
-    requires { ⌜ WordsRoom l (length (now a)) (length (now s)) (length (now work)) (length (now out)) ⌝ }
-    ensures { λ _. ⌜ now (out .exit) ≡ innerMod 65536 l (now (a .entry)) (nat (now (s .entry))) ⌝ }
+// The inner product of two vectors of l polynomials, modulo 65536: zeros, to which each turn adds one product. The caller lends the places to work
+// in.
+pub fn inner_words(l: usize, a: &[u16], s: &[u16], work: &mut [u16]) -> [u16; 256]
+    requires { ⌜ WordsRoom l (length (now a)) (length (now s)) (length (now work)) ⌝ }
+    ensures { λ r. ⌜ r ≡ innerMod 65536 l (now (a .entry)) (nat (now (s .entry))) ⌝ }
 {
-    clear(out);
+    let mut acc = [0u16; 256];
     let mut j = 0;
     while j < l {
         let p = 256 * j;
         let e = p + 256;
-        rows_add(1, &a[p..e], &s[p..e], work, out);
+        rows_add(1, &a[p..e], &s[p..e], work, &mut acc);
         j += 1;
     }
+    acc
 }
 
 // The inner product of a vector of l polynomials, packed in 10 bits a coefficient, and s, modulo 1024. The caller lends the places for the vector
 // and to work in.
-pub fn inner_into(
-    l: usize,
-    vector: &[u8],
-    s: &[u16],
-    words: &mut [u16],
-    work: &mut [u16],
-    out: &mut [u16],
-)
-    requires { ⌜ InnerRoom l (length (now vector)) (length (now s)) (length (now words)) (length (now work)) (length (now out)) ⌝ }
-    ensures { λ _. ⌜ now (out .exit)
-        ≡ innerMod 1024 l (unpacked 10 (now (vector .entry))) (nat (now (s .entry))) ⌝ }
+pub fn inner(l: usize, vector: &[u8], s: &[u16], words: &mut [u16], work: &mut [u16]) -> [u16; 256]
+    requires { ⌜ InnerRoom l (length (now vector)) (length (now s)) (length (now words)) (length (now work)) ⌝ }
+    ensures { λ r. ⌜ r ≡ innerMod 1024 l (unpacked 10 (now (vector .entry))) (nat (now (s .entry))) ⌝ }
 {
     packing::unpack_into(10, vector, words);
-    inner_words_into(l, words, s, work, out);
-    reduce(1024, out);
+    let mut acc = inner_words(l, words, s, work);
+    reduce(1024, &mut acc);
+    acc
 }
 
 // How many places a step in a flat matrix is: l from a row to the next, 1 from a column to the next.

@@ -7,10 +7,10 @@ use Rattle.measure.proofs.noise_size_with.Statement.{statement}
 use Rattle.measure.proofs.noise_size_with.Tie as tie
 
 abbrev first-of : tie.After-product-with2 → tie.After-product-with
-first-of c = c .before .before .before .before .before .before .before .before .before .before .before .before .before
+first-of c = c .before .before .before .before .before .before .before .before .before .before .before .before
 
 abbrev encryption-of : tie.After-product-with → tie.After-words-into2
-encryption-of c = c .before .before .before .before .before .before .before .before .before
+encryption-of c = c .before .before .before .before .before .before .before .before
 
 abbrev making-of : tie.After-words-into2 → tie.After-words-into
 making-of c = c .before .before .before .before
@@ -20,7 +20,7 @@ start-of c = c .before .before .before .before .before .before .before .before
 
 product-with-requires-2 : tie.Need-product-with-requires-2
 product-with-requires-2 c κs =
-    let first = c .before .before .before .before .before .before .before .before .before .before .before .before in
+    let first = c .before .before .before .before .before .before .before .before .before .before .before in
     let encryption = encryption-of first in
     let making = making-of encryption in
     let space = start-of making .pre in

@@ -9,7 +9,7 @@ returns : tie.Need-returns
 returns c =
     let after-data = c .before .before in
     let after-both = after-data .before .before .before .before .before in
-    let after-secret = after-both .before .before .before .before .before .before .before .before in
+    let after-secret = after-both .before .before .before .before .before .before .before in
     let room = after-secret .before .before .before .before .before .before .before .before .pre .room in
     let both = after-both .both-into .ensures in
     encrypt-steps _ _ _ _ _ (room .row) (room .ctLong) (search first-part) (search (last-part, room .pkLong))

@@ -5,7 +5,7 @@ use mathlib.Core.Path.{_≡_, refl, sym, _∙_, ap, ap₂}
 use native.Mathlib.Nat.{mul-suc}
 use native.Mathlib.Omega.{arith}
 use lib.IntN.{pos}
-use lib.ListN.{length, take, drop, length-map, length-take, length-drop}
+use lib.ListN.{length, take, drop, replicate, length-map, length-take, length-drop}
 use Rattle.lists.specs.Lists.{from}
 use Rattle.lists.specs.Laws.Lists.{from-add, map-from}
 use Rattle.lists.specs.Laws.Parts.{mid-part}
@@ -43,8 +43,8 @@ module _ (M : ℕ → ℕ → List ℕ) (s : List ℕ) where
 
 -- two vectors: one row
 module _ (a s : List ℕ) where
-  pub inner-none : from 256 (λ k. 0) ≡ innerMod 65536 0 a (nat s)
-  unfolding innerMod sums blocks
+  pub inner-none : replicate 256 0 ≡ innerMod 65536 0 a (nat s)
+  unfolding innerMod sums blocks from
   inner-none = sums-none (λ i j. poly a j) s 1
 
   pub inner-next :

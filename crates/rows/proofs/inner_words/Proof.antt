@@ -1,24 +1,24 @@
--- `rows::inner_words_into` meets its contract: after the zeros, each turn adds one product.
+-- `rows::inner_words` meets its contract: after the zeros, each turn adds one product.
 use Prim.Native.Nat.{_≤_, _-_}
-use mathlib.Core.Path.{_≡_, refl, _∙_}
+use mathlib.Core.Path.{_≡_, refl}
 use native.Mathlib.Omega.{arith}
 use borrow.Author.Needs.{needs}
 use lib.ListN.{length, length-take, length-drop}
 use Rattle.algebra.specs.Ring.{nat}
 use Rattle.vectors.specs.Vectors.{innerMod}
 use Rattle.rows.specs.Laws.Sums.{inner-none, inner-next}
-use Rattle.rows.proofs.inner_words_into.Statement.{statement}
-use Rattle.rows.proofs.inner_words_into.Tie as tie
+use Rattle.rows.proofs.inner_words.Statement.{statement}
+use Rattle.rows.proofs.inner_words.Tie as tie
 
 abbrev Inv-loop : tie.InvT-loop
-Inv-loop l a s work₀ out₀ j₀ work out j =
-    (out ≡ innerMod 65536 j a (nat s)) × (j ≤ l) × (length work ≡ length work₀) × (length out ≡ length out₀)
+Inv-loop l a s work₀ acc₀ j₀ work acc j =
+    (acc ≡ innerMod 65536 j a (nat s)) × (j ≤ l) × (length work ≡ length work₀) × (length acc ≡ 256)
 
 abbrev μ-loop : tie.MeasureT-loop
-μ-loop l a s work₀ out₀ j₀ work out j = l - j
+μ-loop l a s work₀ acc₀ j₀ work acc j = l - j
 
 abbrev start-of : tie.In-loop Inv-loop μ-loop → tie.Start Inv-loop μ-loop
-start-of c = c .before .before .before .before .before .before .before .before .before .before
+start-of c = c .before .before .before .before .before
 
 rows-add-requires : tie.Need-rows-add-requires Inv-loop μ-loop
 rows-add-requires c κs =
@@ -29,12 +29,12 @@ rows-add-requires c κs =
       factors = simp (length-take, length-drop) (omega (arith, room .first, k .loop-test .taken));
       factor = simp (length-take, length-drop) (omega (arith, room .second, k .loop-test .taken));
       space = omega (arith, room .space, k .before .loop .inv .2);
-      room = omega (arith, room .room, k .before .loop .inv .3);
+      room = omega (arith, k .before .loop .inv .3);
     }
 
 loop-again : tie.Need-loop-again Inv-loop μ-loop
 loop-again c =
-    let adds = c .before .before .before .before in
+    let adds = c .before .before .before in
     let k = adds .before .before .before .before .before in
     let a = start-of k .args in (
       inner-next (a .a .now) (a .s .now) (k .before .loop .j) (omega (arith, start-of k .pre .first, k .loop-test .taken)) (k .before .loop .inv .0)
@@ -44,17 +44,16 @@ loop-again c =
       search needs,
     )
 
-pub inner-words-into-spec : {M : Type 1} → statement M
-inner-words-into-spec =
+pub inner-words-spec : {M : Type 1} → statement M
+inner-words-spec =
     tie.close
     (tie.spec
     Inv-loop
     μ-loop
-    (λ c κs. search needs)
     (λ c.
-    let z = c .before .before in
-    let s = z .before .before .before .before .before .before in
-    (z .clear .ensures ∙ rw (s .pre .room) (inner-none (s .args .a .now) (s .args .s .now)), omega arith, refl, refl))
+    let a = c .before .before .before .args in
+    (inner-none (a .a .now) (a .s .now), omega arith, refl, refl))
+    (λ c. search needs)
     (λ c. search needs)
     (λ c. search needs)
     (λ c. search needs)
@@ -70,8 +69,7 @@ inner-words-into-spec =
     (λ c. search needs)
     loop-again
     (λ c. search needs)
-    (λ c. search needs)
     (λ c.
     let t = c .before .loop in
-    let e : t .j ≡ c .before .before .before .before .before .before .before .before .before .before .args .l = omega arith in
+    let e : t .j ≡ c .before .before .before .before .before .args .l = omega arith in
     rw e at (t .inv .0)))
