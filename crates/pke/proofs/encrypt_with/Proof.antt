@@ -1,4 +1,5 @@
 -- `pke::encrypt_with` meets its contract: the two parts of the ciphertext, each written at its place, are those of the definition.
+use Prim.Native.Nat.{_*_}
 use borrow.Author.Needs.{needs}
 use Rattle.lists.specs.Laws.Parts.{first-part, last-part}
 use Rattle.pke.specs.Laws.Pke.{encrypt-steps}
@@ -12,8 +13,12 @@ returns c =
     let after-secret = after-both .before .before .before .before .before .before .before in
     let room = after-secret .before .before .before .before .before .before .before .before .pre .room in
     let both = after-both .both-into .ensures in
-    encrypt-steps _ _ _ _ _ (room .row) (room .ctLong) (search first-part) (search (last-part, room .pkLong))
-    (after-secret .secret-residues-into .ensures) (both .0) (both .1) (after-data .data-at .ensures)
+    let a = after-secret .before .before .before .before .before .before .before .before .args in
+    let pk = a .«public-key» .now in
+    let e = 320 * a .p .l in
+    encrypt-steps (a .p) pk (a .message .now) (a .seed .now) (a .ciphertext .now) (room .row) (room .ctLong)
+    (after-secret .secret-residues-into .ensures) (both .0) (both .1) (after-data .data-at .ensures) (first-part e pk)
+    (last-part e _ pk (room .pkLong))
 
 pub encrypt-with-spec : {M : Type 1} → statement M
 encrypt-with-spec =

@@ -27,11 +27,12 @@ use Rattle.pke.specs.Laws.Lengths.{length-dataPart}
 
 pub encrypt-steps :
     (p : Params) (pk message seed old : List ℕ) {first last s v front ct : List ℕ} → Row p → length old ≡ p .ct →
-    first ≡ take (320 * p .l) pk → last ≡ drop (320 * p .l) pk → s ≡ residues 8192 (secret (p .l) (p .mu) seed) →
-    front ≡ placed 0 (packed 10 (roundedVector false (p .l) last (nat s))) old → v ≡ innerMod 1024 (p .l) (unpacked 10 first) (nat s) →
-    ct ≡ placed (320 * p .l) (packed (p .bits) (reconData (p .g) (maskedPoly v (unpacked 1 message)))) front → ct ≡ encrypted p pk message seed
+    s ≡ residues 8192 (secret (p .l) (p .mu) seed) → front ≡ placed 0 (packed 10 (roundedVector false (p .l) last (nat s))) old →
+    v ≡ innerMod 1024 (p .l) (unpacked 10 first) (nat s) →
+    ct ≡ placed (320 * p .l) (packed (p .bits) (reconData (p .g) (maskedPoly v (unpacked 1 message)))) front →
+    first ≡ take (320 * p .l) pk → last ≡ drop (320 * p .l) pk → ct ≡ encrypted p pk message seed
 unfolding encrypted dataPoly
-encrypt-steps p pk message seed old row long f l s b v n =
+encrypt-steps p pk message seed old row long s b v n f l =
     let first = take (320 * p .l) pk in
     let last = drop (320 * p .l) pk in
     let s' = secret (p .l) (p .mu) seed in
