@@ -6,7 +6,7 @@
 begins with a fact that no longer holds. Some errors say only that a tactic stopped before it had an answer, or that a
 proof does not fit the code any more: right programs are refused with the same words. It exits with 1 where the first
 error of an edit is of such a class and the edit is not excused by name, where an excuse is not needed, where an edit
-has no log, and where a log has no edit. Edits whose first error shows little are named: it is cut off before what
+has no log, and where a log has no edit. Edits whose first error may show little are named: it is cut off before what
 differs, or it stands at what a call requires, which may still hold. The last lines are the classes with their counts.
 `--list` prints the first error of every edit.
 
@@ -28,7 +28,7 @@ ERROR = re.compile(rf"^(\S+:\d+:\d+): error: {TEXT}", re.MULTILINE)
 NOTE = re.compile(rf"^note: (\S+:\d+:\d+): {TEXT}", re.MULTILINE)
 SAID = re.compile(rf"^note: what antt said of [^\n]*?: \S+:\d+:\d+: (?!note: ){TEXT}", re.MULTILINE)
 
-NOTHING, LITTLE, SOMETHING = "shows nothing", "shows little", ""
+NOTHING, LITTLE, SOMETHING = "shows nothing", "named above", ""
 
 # Classes with what they show and their words, in the order in which they are tried.
 CLASSES = {
@@ -54,7 +54,7 @@ CLASSES = {
     "an equation whose ends differ": (SOMETHING, r"what it leaves must be a path whose two ends are equal"),
     "an equation without its place": (SOMETHING, r"no occurrence of the path's left endpoint|no part of the goal `"),
     "indices that differ": (SOMETHING, r"` lands at index `"),
-    "types that differ": (SOMETHING, r"but this has type `"),
+    "types that differ": (SOMETHING, r"but this has type `|` ≟ `[^`]*` does not hold"),
 }
 CUT_OFF, AT_REQUIRES = "cut off", "at what a call requires"
 NO_CONTRACT, NO_ERROR, UNKNOWN = "a function without a contract", "no error", "an error of no known class"
@@ -77,25 +77,30 @@ def first(log):
 
 
 def is_whole(words, name):
-    """Whether an error shows all that it compares: both types, or the place where they differ, or the goal."""
+    """Whether an error shows all that it compares: both types, or the place where they differ, or the goal. A place in
+    an implicit argument is none: there the same type may be written in two ways."""
     if name == "an equation without its place":
         return "…[" not in words
     if name != "types that differ":
         return True
-    if re.search(r"computed as far as they go, the two types (?:differ only|first differ) where", words):
+    if re.search(r"computed as far as they go, the two (?:types|sides) (?:differ only|first differ) where", words):
         return True
-    if re.search(r"the two types (?:differ only|first differ) where one has `[^`]*` \(expected\), right after", words):
+    before = re.findall(r"as printed, the two (?:types|sides) [^`]*`[^`]*` \(\w+\), right after `([^`]*)`", words)
+    if any(text.count("{") == text.count("}") for text in before):
         return True
-    pairs = re.findall(r"the two types are `([^`]*)` \(expected\) and `([^`]*)` \(found\)", words)
+    pairs = re.findall(r"the two (?:types|sides) are `([^`]*)` \(\w+\) and `([^`]*)` \(\w+\)", words)
     pairs += re.findall(r"expected type `([^`]*)`,? but this has type `([^`]*)`", words)
-    return any("…[" not in expected + found for expected, found in pairs)
+    pairs += re.findall(r"`([^`]*)` ≟ `([^`]*)` does not hold", words)
+    return any("…[" not in one + other for one, other in pairs)
 
 
 def at_requires(words, proof):
-    """Whether an error stands at what a call requires, by the name of its declaration, or by the last step of the
-    proof up to the error: such a step takes lifetimes too."""
+    """Whether an error stands at what a call requires, by the name of its declaration, by the type asked for, or by the
+    last step of the proof up to the error: such a step takes lifetimes too."""
+    if re.search(r"^`[^`]*-requires(?:-\d+)?`: |(?:expected type|no proof of) `\S*\.Asked ", words):
+        return True
     steps = re.findall(r"^ +\(λ (c\b[^.]*)\.", proof, re.MULTILINE)
-    return bool(re.match(r"`[^`]*-requires(?:-\d+)?`: ", words) or steps and steps[-1].endswith("κs"))
+    return bool(steps) and steps[-1].endswith("κs")
 
 
 def classify(log, proof=""):
@@ -195,6 +200,7 @@ SAMPLES = [
         "fn a::f: no proof: expected `f-spec` in proofs/f/Proof.antt; `search` does not close `returns`",
     ),
     ("search found no proof, at what a call requires", AT + "`g-requires-2`: " + SEARCH),
+    ("search found no proof, at what a call requires", AT + "`f-spec`: " + SEARCH.replace("A.Post c", "A.Asked κs c")),
     ("equations that do not join", AT + "`returns`: `cc`: the equations do not join `A` to `B`"),
     (
         "an equation whose ends differ",
@@ -224,6 +230,20 @@ SAMPLES = [
         " has `g` (found)\n"
         "  expected type `A f…[9 bytes]…`, but this has type `A g…[9 bytes]…`\n"
         "  `f` is not in scope here, so what is shown does not paste back as it stands",
+    ),
+    (
+        "types that differ, cut off",
+        AT + "`f-spec`: as printed, the two types first differ where one has `ℕ` (expected), right after `Path {A =`"
+        " and the other has `row .Denot` (found)\n"
+        "  expected type `A f…[301 bytes]…`\n"
+        "  but this has type `B g…[9 bytes]…`",
+    ),
+    (
+        "types that differ, cut off",
+        AT + "`f-spec`: as printed, the two sides first differ where one has `A` (left), at the start, and the other"
+        " has `B` (right)\n"
+        "  `A f…[301 bytes]…`\n"
+        "  ≟ `B g…[9 bytes]…` does not hold (this comparison had to wait for a metavariable)",
     ),
     (
         "types that differ, cut off",
