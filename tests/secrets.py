@@ -31,14 +31,14 @@ Q8 = "Q8 asks about each coefficient (questions::all_below), so the answer follo
 TABLE = "where mu = 8, a secret's coefficient is read from A4's table of 256 weights, at the byte that is sampled"
 CONTROL = "a control, which has to be found"
 
-# How many places of a kind a function has, and why.
+# How many places of a kind a function has, and why. A loop of Q8 has 256 turns, of which the compiler puts four in a row.
 LISTED = {
-    ("jump", "saber_pack"): (1, Q8),
-    ("jump", "saber_poly_mul"): (3, Q8),
-    ("jump", "saber_poly_mul_karatsuba"): (3, Q8),
-    ("jump", "saber_recon_data"): (1, Q8),
-    ("jump", "saber_recover"): (2, Q8),
-    ("jump", "saber_round"): (1, Q8),
+    ("jump", "saber_pack"): (4, Q8),
+    ("jump", "saber_poly_mul"): (6, Q8),
+    ("jump", "saber_poly_mul_karatsuba"): (6, Q8),
+    ("jump", "saber_recon_data"): (4, Q8),
+    ("jump", "saber_recover"): (6, Q8),
+    ("jump", "saber_round"): (4, Q8),
     ("address", "sampling::secret_into"): (4, TABLE),
     ("jump", "control_jump"): (1, CONTROL),
     ("address", "control_address"): (1, CONTROL),
