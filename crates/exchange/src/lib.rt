@@ -12,9 +12,9 @@ ghost use Rattle.vectors.specs.Vectors.{innerMod, matrixRow, side};
 ghost use Rattle.exchange.specs.Exchange.{roundedVector};
 ghost use Rattle.exchange.specs.Rooms.{RowsSpace, VectorRoom, VectorSpace, InnerRoom};
 
-// Rows of b', or of b where the matrix is transposed, so many from row `first` on: those of the matrix times a secret, rounded and packed to
-// their places in the output. The caller lends the places for the polynomials that are multiplied at once and then the rounded rows, to work in,
-// and for the exact rows.
+// `rows` rows of b', or of b where the matrix is transposed, from row `first` on: those of the matrix times a secret, rounded and packed to their
+// places in the output. The caller lends the places for the polynomials that are multiplied at once and then the rounded rows, and to work in, and
+// zeros for the exact rows.
 fn rows_with(
     transposed: bool,
     l: usize,
@@ -27,7 +27,7 @@ fn rows_with(
     exact: &mut [u16],
     out: &mut [u8],
 )
-    requires { ⌜ RowsSpace l (length (now matrix)) (length (now secret)) first rows (length (now cut)) (length (now work)) (length (now exact))
+    requires { ⌜ RowsSpace l (length (now matrix)) (length (now secret)) first rows (length (now cut)) (length (now work)) (now exact)
         (length (now out)) ⌝ }
     ensures { λ _. ⌜ now (out .exit) ≡ placed (320 * first)
         (packed 10 (map round (blocks rows (λ (k : ℕ).
@@ -39,7 +39,8 @@ fn rows_with(
     packing::pack_vector_at(out, 320 * first, 10, rows, cut);
 }
 
-// All of b' or b, at the front of the output, a few rows at a time. The caller lends the place for the packed matrix too.
+// All of b' or b, at the front of the output, up to three rows at a time: each turn starts from zeros. The caller lends the places for the packed
+// matrix, for the polynomials that are multiplied at once, and to work in.
 fn vector_with(
     transposed: bool,
     l: usize,
@@ -48,11 +49,9 @@ fn vector_with(
     matrix: &mut [u8],
     cut: &mut [u16],
     work: &mut [u16],
-    exact: &mut [u16],
     out: &mut [u8],
 )
-    requires { ⌜ VectorSpace l (length (now secret)) (length (now matrix)) (length (now cut)) (length (now work)) (length (now exact))
-        (length (now out)) ⌝ }
+    requires { ⌜ VectorSpace l (length (now secret)) (length (now matrix)) (length (now cut)) (length (now work)) (length (now out)) ⌝ }
     ensures { λ _. ⌜ now (out .exit)
         ≡ placed 0 (packed 10 (roundedVector transposed l (now (seed .entry)) (nat (now (secret .entry))))) (now (out .entry)) ⌝ }
 {
@@ -61,6 +60,7 @@ fn vector_with(
     while i < l {
         let n = rows::some_rows(l - i);
         let e = 256 * n;
+        let mut exact = [0u16; 768];
         rows_with(
             transposed,
             l,
@@ -86,7 +86,6 @@ pub fn vector_into(transposed: bool, l: usize, seed: &[u8], secret: &[u16], out:
     let mut matrix = [0u8; 6656];
     let mut cut = [0u16; 768];
     let mut work = [0u16; 4632];
-    let mut exact = [0u16; 768];
     let n = 416 * l * l;
     vector_with(
         transposed,
@@ -96,7 +95,6 @@ pub fn vector_into(transposed: bool, l: usize, seed: &[u8], secret: &[u16], out:
         &mut matrix[0..n],
         &mut cut,
         &mut work,
-        &mut exact,
         out,
     );
 }
@@ -123,7 +121,6 @@ pub fn both_into(l: usize, seed: &[u8], vector: &[u8], secret: &[u16], out: &mut
     let mut matrix = [0u8; 6656];
     let mut cut = [0u16; 1024];
     let mut work = [0u16; 4632];
-    let mut exact = [0u16; 768];
     let n = 416 * l * l;
     let e = 256 * l;
     vector_with(
@@ -134,7 +131,6 @@ pub fn both_into(l: usize, seed: &[u8], vector: &[u8], secret: &[u16], out: &mut
         &mut matrix[0..n],
         &mut cut,
         &mut work,
-        &mut exact,
         out,
     );
     rows::inner(l, vector, secret, &mut cut[0..e], &mut work)

@@ -105,7 +105,7 @@ pub fn rows_add(rows: usize, a: &[u16], b: &[u16], work: &mut [u16], out: &mut [
 }
 
 // Zeros.
-pub fn clear(out: &mut [u16])
+fn clear(out: &mut [u16])
     ensures { λ _. ⌜ now (out .exit) ≡ from (length (now (out .entry))) (λ (k : ℕ). 0) ⌝ }
 {
     let mut k = 0;

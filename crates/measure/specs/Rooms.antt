@@ -8,7 +8,16 @@ use Rattle.algebra.specs.Ring.{at}
 use Rattle.rows.specs.Rooms.{ProductRoom}
 
 -- `product_with`: a packed matrix and two secrets of l polynomials
-pub record ProductSpace (l A s t cut exact work : ℕ) : Type 0 where
+pub record ProductSpace (l A s t cut work : ℕ) : Type 0 where
+  pub few : l ≤ 4
+  pub matrixLong : A ≡ 416 * (l * l)
+  pub sLong : s ≡ 256 * l
+  pub tLong : t ≡ 256 * l
+  pub cutLong : 768 ≤ cut
+  pub workLong : 4632 ≤ work
+
+-- `product_in`: the same, and zeros for the product
+pub record ProductInSpace (l A s t cut work : ℕ) (exact : List ℕ) : Type 0 where
   pub room : ProductRoom l A s cut work exact
   pub tLong : t ≡ 256 * l
 
@@ -27,10 +36,9 @@ pub record NoiseRoom (l A : ℕ) (s t : List ℤ) : Type 0 where
   pub tSmall : Small most t
   pub sums : 2048 * (l * most) < 32768
 
-pub record NoiseSpace (l A : ℕ) (s t : List ℤ) (sWords tWords cut exact work : ℕ) : Type 0 where
+pub record NoiseSpace (l A : ℕ) (s t : List ℤ) (sWords tWords cut work : ℕ) : Type 0 where
   pub room : NoiseRoom l A s t
   pub sWordsLong : sWords ≡ 256 * l
   pub tWordsLong : tWords ≡ 256 * l
   pub cutLong : 768 ≤ cut
-  pub exactLong : exact ≡ 256 * l
   pub workLong : 4632 ≤ work

@@ -14,7 +14,7 @@ ghost use Rattle.packing.specs.Packing.{unpacked};
 ghost use Rattle.vectors.specs.Vectors.{entry, side};
 ghost use Rattle.noise.specs.Noise.{around, error, errors, noise};
 ghost use Rattle.measure.specs.Measure.{largest};
-ghost use Rattle.measure.specs.Rooms.{ProductSpace, NoiseRoom, NoiseSpace};
+ghost use Rattle.measure.specs.Rooms.{ProductSpace, ProductInSpace, NoiseRoom, NoiseSpace};
 use std::num;
 
 // The error of rounding a coefficient: 4 less what rounding drops.
@@ -36,19 +36,19 @@ fn errors_in(exact: &mut [u16])
 }
 
 // The errors of the product of the packed matrix, or of the transposed one, and the secret s, and their inner product with the secret t. The
-// caller lends the places for three polynomials, for the product and its errors, and to work in.
-fn product_with(
+// caller lends the places for three polynomials and to work in, and zeros for the product and its errors.
+fn product_in(
     transposed: bool,
     l: usize,
     matrix: &[u8],
     s: &[u16],
     t: &[u16],
     cut: &mut [u16],
-    exact: &mut [u16],
     work: &mut [u16],
+    exact: &mut [u16],
 ) -> [u16; 256]
-    requires { ⌜ ProductSpace l (length (now matrix)) (length (now s)) (length (now t)) (length (now cut)) (length (now exact))
-        (length (now work)) ⌝ }
+    requires { ⌜ ProductInSpace l (length (now matrix)) (length (now s)) (length (now t)) (length (now cut)) (length (now work))
+        (now exact) ⌝ }
     ensures { λ r. ⌜ r
         ≡ residues 65536 (inner 256 l (errors 256 l (side transposed l (unpacked 13 (now (matrix .entry)))) (poly (nat (now (s .entry)))))
         (poly (nat (now (t .entry))))) ⌝ }
@@ -56,6 +56,26 @@ fn product_with(
     rows::product_into(transposed, l, matrix, s, cut, work, exact);
     errors_in(exact);
     rows::inner_words(l, exact, t, work)
+}
+
+// The same, with zeros of its own.
+fn product_with(
+    transposed: bool,
+    l: usize,
+    matrix: &[u8],
+    s: &[u16],
+    t: &[u16],
+    cut: &mut [u16],
+    work: &mut [u16],
+) -> [u16; 256]
+    requires { ⌜ ProductSpace l (length (now matrix)) (length (now s)) (length (now t)) (length (now cut)) (length (now work)) ⌝ }
+    ensures { λ r. ⌜ r
+        ≡ residues 65536 (inner 256 l (errors 256 l (side transposed l (unpacked 13 (now (matrix .entry)))) (poly (nat (now (s .entry)))))
+        (poly (nat (now (t .entry))))) ⌝ }
+{
+    let mut exact = [0u16; 1024];
+    let n = 256 * l;
+    product_in(transposed, l, matrix, s, t, cut, work, &mut exact[0..n])
 }
 
 // The size of the number near zero whose residue is x - y.
@@ -88,8 +108,7 @@ fn largest_of(left: &[u16; 256], right: &[u16; 256]) -> usize
     most
 }
 
-// The largest size of a coefficient of N; the caller lends the places for the secrets modulo 65536, for three polynomials, for a product and
-// its errors, and to work in.
+// The largest size of a coefficient of N; the caller lends the places for the secrets modulo 65536, for three polynomials, and to work in.
 fn noise_size_with(
     l: usize,
     matrix: &[u8],
@@ -98,17 +117,16 @@ fn noise_size_with(
     s_words: &mut [u16],
     t_words: &mut [u16],
     cut: &mut [u16],
-    exact: &mut [u16],
     work: &mut [u16],
 ) -> usize
     requires { ⌜ NoiseSpace l (length (now matrix)) (now s) (now t) (length (now «s_words»)) (length (now «t_words»)) (length (now cut))
-        (length (now exact)) (length (now work)) ⌝ }
+        (length (now work)) ⌝ }
     ensures { λ r. ⌜ r ≡ largest (noise 256 l (entry l (unpacked 13 (now (matrix .entry)))) (poly (now (s .entry))) (poly (now (t .entry)))) ⌝ }
 {
     weights::words_into(s, s_words);
     weights::words_into(t, t_words);
-    let left = product_with(false, l, matrix, t_words, s_words, cut, exact, work);
-    let right = product_with(true, l, matrix, s_words, t_words, cut, exact, work);
+    let left = product_with(false, l, matrix, t_words, s_words, cut, work);
+    let right = product_with(true, l, matrix, s_words, t_words, cut, work);
     largest_of(&left, &right)
 }
 
@@ -120,7 +138,6 @@ pub fn noise_size(l: usize, matrix: &[u8], s: &[i8], t: &[i8]) -> usize
     let mut s_words = [0u16; 1024];
     let mut t_words = [0u16; 1024];
     let mut cut = [0u16; 768];
-    let mut exact = [0u16; 1024];
     let mut work = [0u16; 4632];
     let n = 256 * l;
     noise_size_with(
@@ -131,7 +148,6 @@ pub fn noise_size(l: usize, matrix: &[u8], s: &[i8], t: &[i8]) -> usize
         &mut s_words[0..n],
         &mut t_words[0..n],
         &mut cut,
-        &mut exact[0..n],
         &mut work,
     )
 }

@@ -7,7 +7,6 @@ ghost use Rattle.algebra.specs.Ring.{nat, poly, blocks};
 ghost use Rattle.packing.specs.Packing.{unpacked};
 ghost use Rattle.vectors.specs.Vectors.{innerMod, matrixRow, matrixVector, side};
 ghost use Rattle.rows.specs.Rooms.{CutRoom, SumsRoom, WordsRoom, InnerRoom, RowsRoom, ProductRoom, sums};
-use karatsuba::clear;
 use karatsuba::rows_add;
 use ring::reduce;
 
@@ -29,7 +28,8 @@ fn cut_into(width: u32, bytes: &[u8], start: usize, step: usize, rows: usize, ou
 }
 
 // For each i below `rows` the sum of l products, modulo 65536: of the packed polynomials that stand `column` places apart from place
-// `start` + `row` i on, and those of s. The caller lends the places for the polynomials that are multiplied at once and to work in.
+// `start` + `row` i on, and those of s. The caller lends zeros, to which each turn adds one product a row, and the places for the polynomials that
+// are multiplied at once and to work in.
 fn sums_into(
     width: u32,
     rows: usize,
@@ -44,12 +44,11 @@ fn sums_into(
     out: &mut [u16],
 )
     requires { ⌜ SumsRoom width rows l (length (now bytes)) start row column (length (now s)) (length (now cut)) (length (now work))
-        (length (now out)) ⌝ }
+        (now out) ⌝ }
     ensures { λ _. ⌜ now (out .exit)
         ≡ sums 65536 rows l (λ (i : ℕ). λ (j : ℕ). poly (unpacked width (now (bytes .entry))) (start + column * j + row * i))
         (now (s .entry)) ⌝ }
 {
-    clear(out);
     let mut j = 0;
     while j < l {
         let p = 256 * j;
@@ -96,8 +95,9 @@ fn stride(by_rows: bool, l: usize) -> usize
     if by_rows { l } else { 1 }
 }
 
-// Rows of the product of a matrix of l rows and l columns, packed in 13 bits a coefficient, or of the transposed one, and s, modulo 8192: so
-// many from row `first` on. The matrix has its rows one after another; the rows of the transposed one are its columns.
+// The product of a matrix of l rows and l columns, packed in 13 bits a coefficient, or of the transposed one, and s, modulo 8192: `rows` rows of
+// it from row `first` on. The matrix has its rows one after another; the rows of the transposed one are its columns. The caller lends zeros for the
+// product.
 pub fn rows_into(
     transposed: bool,
     l: usize,
@@ -109,7 +109,7 @@ pub fn rows_into(
     work: &mut [u16],
     out: &mut [u16],
 )
-    requires { ⌜ RowsRoom l (length (now matrix)) (length (now s)) first rows (length (now cut)) (length (now work)) (length (now out)) ⌝ }
+    requires { ⌜ RowsRoom l (length (now matrix)) (length (now s)) first rows (length (now cut)) (length (now work)) (now out) ⌝ }
     ensures { λ _. ⌜ now (out .exit)
         ≡ blocks rows (λ (k : ℕ). matrixRow l (side transposed l (unpacked 13 (now (matrix .entry)))) (nat (now (s .entry))) (first + k)) ⌝ }
 {
@@ -139,7 +139,7 @@ pub fn some_rows(left: usize) -> usize
     if left < 3 { left } else { 3 }
 }
 
-// All rows of the product of a packed matrix, or of the transposed one, and s, up to three at a time.
+// All rows of the product of a packed matrix, or of the transposed one, and s, up to three at a time. The caller lends zeros for them.
 pub fn product_into(
     transposed: bool,
     l: usize,
@@ -149,7 +149,7 @@ pub fn product_into(
     work: &mut [u16],
     out: &mut [u16],
 )
-    requires { ⌜ ProductRoom l (length (now matrix)) (length (now s)) (length (now cut)) (length (now work)) (length (now out)) ⌝ }
+    requires { ⌜ ProductRoom l (length (now matrix)) (length (now s)) (length (now cut)) (length (now work)) (now out) ⌝ }
     ensures { λ _. ⌜ now (out .exit) ≡ matrixVector l (side transposed l (unpacked 13 (now (matrix .entry)))) (nat (now (s .entry))) ⌝ }
 {
     let mut i = 0;

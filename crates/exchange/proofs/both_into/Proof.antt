@@ -5,6 +5,10 @@ use borrow.Author.Needs.{needs}
 use Rattle.exchange.proofs.both_into.Statement.{statement}
 use Rattle.exchange.proofs.both_into.Tie as tie
 
+abbrev start-of : tie.After-work3 → tie.Start
+start-of c =
+    c .before .before .before .before .before .before .before .before .before .before .before .before .before .before .before .before
+
 pub both-into-spec : {M : Type 1} → statement M
 both-into-spec =
     tie.close
@@ -17,12 +21,11 @@ both-into-spec =
     (λ c. let few = c .before .before .before .before .pre .0 .few in omega (arith, mul-le-mul few few))
     (λ c. search needs)
     (λ c. search needs)
-    (λ c. search needs)
     (λ c κs. search needs)
     (λ c. search needs)
     (λ c. search needs)
     (λ c. search needs)
     (λ c. search needs)
-    (λ c κs. search needs)
+    (λ c κs. record { packed = start-of c .pre .1 .vectorLong; room = search needs })
     (λ c. search needs)
     (λ c. search needs))

@@ -16,7 +16,6 @@ vector-into-spec =
     (λ c. let few = c .before .before .before .pre .few in omega (arith, mul-le-mul few few))
     (λ c. search needs)
     (λ c. search needs)
-    (λ c. search needs)
     (λ c κs. search needs)
     (λ c. search needs)
     (λ c. search needs))

@@ -13,35 +13,35 @@ use Rattle.packing.specs.Packing.{packed, unpacked}
 use Rattle.packing.specs.Laws.Places.{packed-none}
 use Rattle.rounding.specs.Rounding.{round}
 use Rattle.vectors.specs.Vectors.{matrixRow, side}
+use Rattle.rows.specs.Laws.Zeros.{zeros-first}
 use Rattle.exchange.specs.Laws.Exchange.{rows-more, vector-whole}
 use Rattle.exchange.proofs.vector_with.Statement.{statement}
 use Rattle.exchange.proofs.vector_with.Tie as tie
 
-pub record Turn (t : Bool) (l : ℕ) (matrix secret cut₀ work₀ exact₀ out₀ cut work exact out : List ℕ) (i : ℕ) : Type 0 where
+pub record Turn (t : Bool) (l : ℕ) (matrix secret cut₀ work₀ out₀ cut work out : List ℕ) (i : ℕ) : Type 0 where
   pub within : i ≤ l
   pub cutLong : length cut ≡ length cut₀
   pub workLong : length work ≡ length work₀
-  pub exactLong : length exact ≡ length exact₀
   pub outLong : length out ≡ length out₀
   pub front : out ≡ placed 0 (packed 10 (map round (blocks i (matrixRow l (side t l (unpacked 13 matrix)) (nat secret))))) out₀
 
 abbrev Inv-loop : tie.InvT-loop
-Inv-loop transposed l seed secret matrix cut₀ work₀ exact₀ out₀ i₀ cut work exact out i =
-    Turn transposed l matrix secret cut₀ work₀ exact₀ out₀ cut work exact out i
+Inv-loop transposed l seed secret matrix cut₀ work₀ out₀ i₀ cut work out i =
+    Turn transposed l matrix secret cut₀ work₀ out₀ cut work out i
 
 abbrev μ-loop : tie.MeasureT-loop
-μ-loop transposed l seed secret matrix cut₀ work₀ exact₀ out₀ i₀ cut work exact out i = l - i
+μ-loop transposed l seed secret matrix cut₀ work₀ out₀ i₀ cut work out i = l - i
 
 abbrev matrix-of : tie.At-loop Inv-loop μ-loop → tie.After-packed-matrix-into Inv-loop μ-loop
 matrix-of c = c .before .before .before
 
 abbrev start-of : tie.After-packed-matrix-into Inv-loop μ-loop → tie.Start Inv-loop μ-loop
-start-of c = c .before .before .before .before .before .before .before .before .before
+start-of c = c .before .before .before .before .before .before .before .before
 
 loop-holds : tie.Need-loop-holds Inv-loop μ-loop
 unfolding blocks
 loop-holds c =
-    record { within = omega arith; cutLong = refl; workLong = refl; exactLong = refl; outLong = refl; front = packed-none _ _ _ }
+    record { within = omega arith; cutLong = refl; workLong = refl; outLong = refl; front = packed-none _ _ _ }
 
 rows-with-requires : tie.Need-rows-with-requires Inv-loop μ-loop
 rows-with-requires c κs =
@@ -59,28 +59,26 @@ rows-with-requires c κs =
         vector = s .pre .room .secretLong;
         cutLong = simp (length-take, length-drop) (omega (arith, few .1, s .pre .cutLong, t .cutLong));
         space = omega (arith, s .pre .workLong, t .workLong);
-        room = simp (length-take, length-drop) (omega (arith, few .1, s .pre .exactLong, t .exactLong));
+        zeros = zeros-first (256 * k .some-rows .result) 768 (omega (arith, few .1));
       };
       outLong = omega (arith, s .pre .room .outLong, t .outLong);
     }
 
 loop-again : tie.Need-loop-again Inv-loop μ-loop
 loop-again c =
-    let made = c .before .before .before .before .before .before .before .before in
+    let made = c .before .before .before .before .before .before .before in
     let k = made .before .before .before .before .before .before in
     let t = k .before .before .loop in
     let matrix = matrix-of (k .before .before) in
     let s = start-of matrix in
     let a = s .args in
     let few = k .some-rows .ensures in
-    let e = 256 * k .some-rows .result - 0 in
     let last = made .rows-with .last .1 .1 .1 .1 .1 .1 in
     let kept = made .rows-with .kept .1 .1 .1 .1 .1 .1 in
     record {
       within = omega (arith, few .2, k .before .loop-test .taken);
-      cutLong = same-len-mid 0 e (t .cut) (last .0) (kept .0) ∙ t .inv .cutLong;
+      cutLong = same-len-mid 0 (256 * k .some-rows .result - 0) (t .cut) (last .0) (kept .0) ∙ t .inv .cutLong;
       workLong = kept .1 .0 ∙ t .inv .workLong;
-      exactLong = same-len-mid 0 e (t .exact) (last .1 .1 .0) (kept .1 .1 .0) ∙ t .inv .exactLong;
       outLong = kept .1 .1 .1 .0 ∙ t .inv .outLong;
       front =
           rows-more (a .l) (side (a .transposed) (a .l) (unpacked 13 (matrix .packed-matrix-into .last .1 .1 .0))) (nat (a .secret .now)) (t .i)
@@ -120,6 +118,5 @@ vector-with-spec =
     (λ c. search needs)
     (λ c. c .before .loop .inv .cutLong)
     (λ c. c .before .loop .inv .workLong)
-    (λ c. c .before .loop .inv .exactLong)
     (λ c. c .before .loop .inv .outLong)
     returns)

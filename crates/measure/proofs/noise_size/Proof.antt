@@ -16,16 +16,12 @@ noise-size-spec =
     (λ c. search needs)
     (λ c. search needs)
     (λ c. search needs)
-    (λ c. search needs)
-    (λ c. search needs)
-    (λ c. search needs)
     (λ c κs.
     record {
-      room = c .before .before .before .before .before .before .pre;
+      room = c .before .before .before .before .before .pre;
       sWordsLong = search needs;
       tWordsLong = search needs;
       cutLong = search needs;
-      exactLong = search needs;
       workLong = search needs;
     })
     (λ c. search needs))

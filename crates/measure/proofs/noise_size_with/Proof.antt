@@ -7,38 +7,36 @@ use Rattle.measure.proofs.noise_size_with.Statement.{statement}
 use Rattle.measure.proofs.noise_size_with.Tie as tie
 
 abbrev first-of : tie.After-product-with2 → tie.After-product-with
-first-of c = c .before .before .before .before .before .before .before .before .before .before .before .before
+first-of c = c .before .before .before .before .before .before .before .before .before
 
 abbrev encryption-of : tie.After-product-with → tie.After-words-into2
-encryption-of c = c .before .before .before .before .before .before .before .before
+encryption-of c = c .before .before .before .before .before .before .before
 
 abbrev making-of : tie.After-words-into2 → tie.After-words-into
 making-of c = c .before .before .before .before
 
 abbrev start-of : tie.After-words-into → tie.Start
-start-of c = c .before .before .before .before .before .before .before .before
+start-of c = c .before .before .before .before .before .before .before
 
 product-with-requires-2 : tie.Need-product-with-requires-2
 product-with-requires-2 c κs =
-    let first = c .before .before .before .before .before .before .before .before .before .before .before in
+    let first = c .before .before .before .before .before .before .before .before in
     let encryption = encryption-of first in
     let making = making-of encryption in
     let space = start-of making .pre in
     let kept = first .product-with .kept .1 .1 .1 .1 .1 in
     record {
-      room = record {
-        matrix = space .room .matrixLong;
-        vector = making .words-into .kept .1 .0 ∙ space .sWordsLong;
-        cutLong = omega (arith, kept .0, space .cutLong);
-        space = omega (arith, kept .1 .1 .0, space .workLong);
-        room = kept .1 .0 ∙ space .exactLong;
-      };
+      few = space .room .few;
+      matrixLong = space .room .matrixLong;
+      sLong = making .words-into .kept .1 .0 ∙ space .sWordsLong;
       tLong = encryption .words-into2 .kept .1 .0 ∙ space .tWordsLong;
+      cutLong = omega (arith, kept .0, space .cutLong);
+      workLong = omega (arith, kept .1 .0, space .workLong);
     }
 
 returns : tie.Need-returns
 returns c =
-    let second = c .before .before .before .before .before .before .before .before .before in
+    let second = c .before .before .before .before .before .before .before in
     let first = first-of second in
     let encryption = encryption-of first in
     let making = making-of encryption in
@@ -56,8 +54,7 @@ noise-size-with-spec =
     (λ c κs. search needs)
     product-with-requires-2
     (λ c κs. search needs)
-    (λ c. making-of (encryption-of (first-of (c .before .before .before .before .before .before .before .before .before))) .words-into .kept .1 .0)
-    (λ c. search needs)
+    (λ c. making-of (encryption-of (first-of (c .before .before .before .before .before .before .before))) .words-into .kept .1 .0)
     (λ c. search needs)
     (λ c. search needs)
     (λ c. search needs)

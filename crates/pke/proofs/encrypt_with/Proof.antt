@@ -11,9 +11,10 @@ returns c =
     let after-data = c .before .before in
     let after-both = after-data .before .before .before .before .before in
     let after-secret = after-both .before .before .before .before .before .before .before in
-    let room = after-secret .before .before .before .before .before .before .before .before .pre .room in
+    let start = after-secret .before .before .before .before .before .before .before .before in
+    let a = start .args in
+    let room = start .pre .room in
     let both = after-both .both-into .ensures in
-    let a = after-secret .before .before .before .before .before .before .before .before .args in
     let pk = a .«public-key» .now in
     let e = 320 * a .p .l in
     encrypt-steps (a .p) pk (a .message .now) (a .seed .now) (a .ciphertext .now) (room .row) (room .ctLong)

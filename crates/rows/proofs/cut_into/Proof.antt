@@ -1,6 +1,6 @@
 -- `rows::cut_into` meets its contract: after i turns the first i polynomials stand one behind another.
 use borrow.Author.Needs.{needs}
-use Prim.Native.Nat.{_≤_, _+_, _*_, _-_}
+use Prim.Native.Nat.{_<_, _≤_, _+_, _*_, _-_}
 use mathlib.Core.Path.{_≡_}
 use native.Mathlib.Nat.{mul-le-mul-left, mul-suc}
 use native.Mathlib.Numerals.{add-one}
@@ -10,7 +10,7 @@ use Rattle.lists.specs.Laws.Parts.{Prefix, prefix-none, prefix-part, prefix-all
 use Rattle.algebra.specs.Ring.{poly, blocks}
 use Rattle.packing.specs.Packing.{unpacked}
 use Rattle.packing.specs.Laws.Packing.{polynomials-fill}
-use Rattle.rows.specs.Laws.Rows.{count-fits, cut-part}
+use Rattle.rows.specs.Laws.Rows.{count-fits, before-last, cut-part}
 use Rattle.rows.proofs.cut_into.Statement.{statement}
 use Rattle.rows.proofs.cut_into.Tie as tie
 
@@ -25,6 +25,11 @@ abbrev start-of : tie.In-loop Inv-loop μ-loop → tie.Start Inv-loop μ-loop
 start-of c = c .before .before .before .before
 
 -- the next polynomial is one of the packed ones
+place : (c : tie.In-loop Inv-loop μ-loop) →
+    let s = start-of c in
+    s .args .start + s .args .step * c .before .loop .i < s .pre .count
+place c = let s = start-of c in before-last (s .args .start) (s .args .step) (s .args .rows) (s .pre .last) (c .loop-test .taken)
+
 part : (c : tie.In-loop Inv-loop μ-loop) →
     let s = start-of c .args in
     let x = s .start + s .step * c .before .loop .i in
@@ -33,7 +38,7 @@ part c =
     let s = start-of c in
     let w = 32 * s .args .width in
     let x = s .args .start + s .args .step * c .before .loop .i in
-    let h = s .pre .parts (c .before .loop .i) (c .loop-test .taken) in (
+    let h = place c in (
       omega (arith, h, count-fits (s .args .width) (s .pre .count) (s .pre .least) (s .pre .whole)),
       omega (arith, s .pre .whole, mul-suc w x, mul-le-mul-left w h),
     )
@@ -58,7 +63,7 @@ loop-again c =
     let bytes = k .before .before .before .shared-slice-known .given in
     let y =
     cut-part (a .width) (a .start + a .step * t .i) (s .pre .count) (a .bytes .now) (s .pre .least) (λ j h. bytes j .fits)
-    (s .pre .whole) (s .pre .parts (t .i) (k .loop-test .taken)) (cuts .unpack-into .ensures) in (
+    (s .pre .whole) (place k) (cuts .unpack-into .ensures) in (
       omega (arith, k .loop-test .taken),
       rw (e, add-one (t .i), ← y)
           (prefix-part _ (t .inv .1) (omega arith) (omega (arith, s .pre .room, k .loop-test .taken)) (cuts .unpack-into .kept .1 .1 .0)),

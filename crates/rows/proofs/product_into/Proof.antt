@@ -1,4 +1,4 @@
--- `rows::product_into` meets its contract: after each turn the first i rows stand one behind another.
+-- `rows::product_into` meets its contract: after each turn the first i rows stand one behind another, and zeros behind them.
 use borrow.Author.Needs.{needs}
 use Prim.Native.Nat.{ℕ, _≤_, _+_, _*_, _-_}
 use mathlib.Core.List.{List}
@@ -6,12 +6,13 @@ use mathlib.Core.Path.{_≡_, refl, _∙_}
 use native.Mathlib.Nat.{mul-add}
 use native.Mathlib.Omega.{arith}
 use borrow.Rule.Slice.PartMut.{same-len-mid}
-use lib.ListN.{length, length-take, length-drop}
+use lib.ListN.{length, drop, replicate, length-take, length-drop}
 use Rattle.lists.specs.Laws.Parts.{Prefix, prefix-none, prefix-part, prefix-all}
 use Rattle.algebra.specs.Ring.{nat, blocks}
 use Rattle.algebra.specs.Laws.Vectors.{blocks-append}
 use Rattle.packing.specs.Packing.{unpacked}
 use Rattle.vectors.specs.Vectors.{matrixRow, matrixVector, side}
+use Rattle.rows.specs.Laws.Zeros.{zeros-long, zeros-behind, zeros-part, zeros-left}
 use Rattle.rows.proofs.product_into.Statement.{statement}
 use Rattle.rows.proofs.product_into.Tie as tie
 
@@ -20,6 +21,7 @@ pub record Turn (row : ℕ → List ℕ) (l : ℕ) (cut₀ work₀ out₀ cut wo
   pub cutLong : length cut ≡ length cut₀
   pub workLong : length work ≡ length work₀
   pub front : Prefix (length out₀) out (256 * i) (blocks i row)
+  pub zeros : drop (256 * i) out ≡ replicate (256 * l - 256 * i) 0
 
 abbrev Inv-loop : tie.InvT-loop
 Inv-loop transposed l matrix s cut₀ work₀ out₀ i₀ cut work out i =
@@ -33,29 +35,43 @@ start-of c = c .before .before .before .before .before .before
 
 loop-holds : tie.Need-loop-holds Inv-loop μ-loop
 unfolding blocks
-loop-holds c = record { within = omega arith; cutLong = refl; workLong = refl; front = prefix-none _ }
+loop-holds c =
+    let s = c .before .before .before .before .before in
+    record {
+      within = omega arith;
+      cutLong = refl;
+      workLong = refl;
+      front = prefix-none _;
+      zeros = s .pre .zeros ∙ zeros-behind 0 (256 * s .args .l) (omega arith);
+    }
+
+-- all rows have their places
+room : (s : tie.Start Inv-loop μ-loop) → length (s .args .out .now) ≡ 256 * s .args .l
+room s = zeros-long _ (s .pre .zeros)
 
 -- the next rows have their places
 places : (c : tie.After-some-rows Inv-loop μ-loop) →
     let t = c .before .before in
     256 * t .loop .i + 256 * c .some-rows .result ≤ length (start-of t .args .out .now)
-places c = omega (arith, c .some-rows .ensures .2, c .before .loop-test .taken, start-of (c .before .before) .pre .room)
+places c = omega (arith, c .some-rows .ensures .2, c .before .loop-test .taken, room (start-of (c .before .before)))
 
 rows-into-requires : tie.Need-rows-into-requires Inv-loop μ-loop
 rows-into-requires c κs =
     let k = c .before .before .before in
     let t = k .before .before .loop .inv in
-    let room = start-of (k .before .before) .pre in
+    let s = start-of (k .before .before) in
     let few = k .some-rows .ensures in
     record {
       some = few .0;
       few = few .1;
       within = omega (arith, few .2, k .before .loop-test .taken);
-      matrix = room .matrix;
-      vector = room .vector;
-      cutLong = simp (length-take, length-drop) (omega (arith, few .1, room .cutLong, t .cutLong));
-      space = omega (arith, room .space, t .workLong);
-      room = simp (length-take, length-drop) (omega (arith, places k, t .front .size));
+      matrix = s .pre .matrix;
+      vector = s .pre .vector;
+      cutLong = simp (length-take, length-drop) (omega (arith, few .1, s .pre .cutLong, t .cutLong));
+      space = omega (arith, s .pre .space, t .workLong);
+      zeros =
+          zeros-part (256 * s .args .l) (256 * k .before .before .loop .i) (256 * k .some-rows .result) _ (omega (arith, places k, room s))
+          (t .zeros);
     }
 
 loop-again : tie.Need-loop-again Inv-loop μ-loop
@@ -77,6 +93,10 @@ loop-again c =
       front =
           rw (blocks-append (t .i) n row, mul-add 256 (t .i) n, ← rows)
           (prefix-part _ (t .inv .front) (omega arith) (places k) (kept .1 .1 .0));
+      zeros =
+          rw (mul-add 256 (t .i) n)
+          (zeros-left (256 * a .l) (256 * t .i) (256 * n) _ (omega (arith, places k, room s)) (t .inv .zeros) (last .1 .1 .0)
+          (t .inv .front .size ∙ room s) (kept .1 .1 .0));
     }
 
 returns : tie.Need-returns Inv-loop μ-loop
@@ -85,7 +105,7 @@ returns c =
     let t = c .before .loop in
     let s = start-of (c .before) in
     let e : t .i ≡ s .args .l = omega (arith, t .inv .within, c .loop-test .left) in
-    rw e at (prefix-all (t .inv .front) (omega (arith, s .pre .room)))
+    rw e at (prefix-all (t .inv .front) (omega (arith, room s)))
 
 pub product-into-spec : {M : Type 1} → statement M
 product-into-spec =

@@ -1,23 +1,34 @@
 -- `rows::rows_into` meets its contract: the sums of its rows, at the places of the matrix or of the transposed one, all of them reduced.
-use Prim.Native.Nat.{ℕ, _+_, _*_, _<_}
+use Prim.Native.Nat.{_+_, _-_, _*_, _<_}
 use native.Mathlib.Omega.{arith}
 use borrow.Author.Needs.{needs}
 use Rattle.packing.specs.Packing.{unpacked}
-use Rattle.rows.specs.Laws.Rows.{rows-values, rows-parts}
+use Rattle.rows.specs.Laws.Rows.{rows-values, rows-last}
 use Rattle.rows.proofs.rows_into.Statement.{statement}
 use Rattle.rows.proofs.rows_into.Tie as tie
 
 abbrev start-of : tie.After-stride2 → tie.Start
 start-of c = c .before .before .before .before .before .before .before
 
--- every factor is in the matrix
-parts : (c : tie.After-stride2) (k j : ℕ) →
+returns : tie.Need-returns
+returns c =
+    let reduced = c .before .before in
+    let summed = reduced .before .before .before .before .before .before .before .before in
+    let strides = summed .before .before .before .before in
+    let a = start-of strides .args in
+    rows-values (a .transposed) (a .l) (strides .before .stride .ensures) (strides .stride2 .ensures) (a .first) (a .rows)
+    (unpacked 13 (a .matrix .now)) (a .s .now)
+    {acc = summed .sums-into .last .1 .1 .1 .1 .1 .1 .1 .1 .1 .1 .0} (summed .sums-into .ensures) (reduced .reduce .ensures)
+
+-- the last factor is in the matrix
+last : (c : tie.After-stride2) →
     let a = start-of c .args in
-    k < a .rows → j < a .l →
-    c .before .stride .result * a .first + c .stride2 .result * j + c .before .stride .result * k < a .l * a .l
-parts c =
+    let row = c .before .stride .result in
+    row * a .first + c .stride2 .result * (a .l - 1) + row * (a .rows - 1) < a .l * a .l
+last c =
     let s = start-of c in
-    rows-parts (s .args .transposed) (s .args .l) (c .before .stride .ensures) (c .stride2 .ensures) (s .args .first) (s .args .rows) (s .pre .within)
+    rows-last (s .args .transposed) (s .args .l) (c .before .stride .ensures) (c .stride2 .ensures) (s .args .first) (s .args .rows) (s .pre .some)
+    (s .pre .within)
 
 sums-into-requires : tie.Need-sums-into-requires
 sums-into-requires c κs =
@@ -30,22 +41,12 @@ sums-into-requires c κs =
       few = omega (arith, s .pre .few);
       count = s .args .l * s .args .l;
       whole = s .pre .matrix;
-      parts = parts strides;
+      last = omega (arith, last strides);
       vector = s .pre .vector;
       cutLong = s .pre .cutLong;
       space = omega (arith, s .pre .space, s .pre .few);
-      room = s .pre .room;
+      zeros = s .pre .zeros;
     }
-
-returns : tie.Need-returns
-returns c =
-    let reduced = c .before .before in
-    let summed = reduced .before .before .before .before .before .before .before .before in
-    let strides = summed .before .before .before .before in
-    let a = start-of strides .args in
-    rows-values (a .transposed) (a .l) (strides .before .stride .ensures) (strides .stride2 .ensures) (a .first) (a .rows)
-    (unpacked 13 (a .matrix .now)) (a .s .now)
-    {acc = summed .sums-into .last .1 .1 .1 .1 .1 .1 .1 .1 .1 .1 .0} (summed .sums-into .ensures) (reduced .reduce .ensures)
 
 pub rows-into-spec : {M : Type 1} → statement M
 rows-into-spec =
@@ -53,7 +54,7 @@ rows-into-spec =
     (tie.spec
     (λ c κs. search needs)
     (λ c κs. search needs)
-    (λ c. let room = start-of c .pre in omega (arith, room .matrix, parts c 0 0 (room .some) (omega (arith, room .some, room .within))))
+    (λ c. omega (arith, start-of c .pre .matrix, last c))
     sums-into-requires
     (λ c κs. search needs)
     (λ c. search needs)

@@ -1,15 +1,17 @@
 -- `rows::sums_into` meets its contract: after the zeros, each turn cuts a column and adds one product to each sum.
-use Prim.Native.Nat.{ℕ, _≤_, _+_, _*_, _-_}
+use Prim.Native.Nat.{ℕ, _<_, _≤_, _+_, _*_, _-_}
 use mathlib.Core.List.{List}
 use mathlib.Core.Path.{_≡_, refl, _∙_}
+use native.Mathlib.Nat.{mul-le-mul-left}
 use native.Mathlib.Omega.{arith}
 use borrow.Author.Needs.{needs}
 use lib.ListN.{length, length-take, length-drop}
 use Rattle.algebra.specs.Ring.{poly}
 use Rattle.packing.specs.Packing.{unpacked}
 use Rattle.rows.specs.Rooms.{sums}
-use Rattle.rows.specs.Laws.Rows.{count-fits, part-long}
+use Rattle.rows.specs.Laws.Rows.{count-fits, before-last, part-long}
 use Rattle.rows.specs.Laws.Sums.{sums-none, sums-more}
+use Rattle.rows.specs.Laws.Zeros.{zeros-long}
 use Rattle.rows.proofs.sums_into.Statement.{statement}
 use Rattle.rows.proofs.sums_into.Tie as tie
 
@@ -28,19 +30,24 @@ abbrev μ-loop : tie.MeasureT-loop
 μ-loop width rows l bytes start row column s cut₀ work₀ out₀ j₀ cut work out j = l - j
 
 abbrev start-of : tie.In-loop Inv-loop μ-loop → tie.Start Inv-loop μ-loop
-start-of c = c .before .before .before .before .before .before .before .before .before .before .before
+start-of c = c .before .before .before .before .before .before .before
 
--- the place of the column is among the packed polynomials
-column : (c : tie.In-loop Inv-loop μ-loop) →
+-- the last polynomial of the column is one of the packed ones
+last : (c : tie.In-loop Inv-loop μ-loop) →
+    let s = start-of c in
+    s .args .start + s .args .column * c .before .loop .j + s .args .row * (s .args .rows - 1) < s .pre .count
+last c =
+    let s = start-of c in
+    let few : c .before .loop .j ≤ s .args .l - 1 = omega (arith, c .loop-test .taken) in
+    omega (arith, s .pre .last, mul-le-mul-left (s .args .column) few)
+
+-- and so the column's place fits
+fits : (c : tie.In-loop Inv-loop μ-loop) →
     let a = start-of c .args in
     a .start + a .column * c .before .loop .j ≤ length (a .bytes .now)
-column c =
+fits c =
     let s = start-of c in
-    omega (
-      arith,
-      s .pre .parts 0 (c .before .loop .j) (s .pre .some) (c .loop-test .taken),
-      count-fits (s .args .width) (s .pre .count) (s .pre .least) (s .pre .whole),
-    )
+    omega (arith, last c, count-fits (s .args .width) (s .pre .count) (s .pre .least) (s .pre .whole))
 
 cut-into-requires : tie.Need-cut-into-requires Inv-loop μ-loop
 cut-into-requires c κs =
@@ -51,7 +58,7 @@ cut-into-requires c κs =
       most = room .most;
       count = room .count;
       whole = room .whole;
-      parts = λ i h. room .parts i (k .before .loop .j) h (k .loop-test .taken);
+      last = omega (arith, last k);
       room = omega (arith, room .cutLong, k .before .loop .inv .cutLong);
     }
 
@@ -66,7 +73,7 @@ rows-add-requires c κs =
       factors = omega (arith, room .cutLong, t .cutLong, cuts .cut-into .kept .1 .1 .1 .1 .1 .0);
       factor = simp (length-take, length-drop) (omega (arith, room .vector, k .loop-test .taken));
       space = omega (arith, room .space, t .workLong);
-      room = omega (arith, room .room, t .outLong);
+      room = t .outLong ∙ zeros-long _ (room .zeros);
     }
 
 loop-again : tie.Need-loop-again Inv-loop μ-loop
@@ -85,7 +92,8 @@ loop-again c =
       sum =
           sums-more (λ i j. poly (unpacked (a .width) (a .bytes .now)) (a .start + a .column * j + a .row * i)) (a .s .now) (a .rows) (t .j)
           (λ i h.
-          part-long (a .width) _ (s .pre .count) (a .bytes .now) (s .pre .least) (s .pre .whole) (s .pre .parts i (t .j) h (k .loop-test .taken)))
+          part-long (a .width) _ (s .pre .count) (a .bytes .now) (s .pre .least) (s .pre .whole)
+          (before-last (a .start + a .column * t .j) (a .row) (a .rows) (last k) h))
           (cuts .cut-into .ensures) (t .inv .sum) (adds .rows-add .ensures);
     }
 
@@ -95,20 +103,17 @@ sums-into-spec =
     (tie.spec
     Inv-loop
     μ-loop
-    (λ c κs. search needs)
-    (λ c.
-    let z = c .before .before in
-    record {
+    (λ c. record {
       within = omega arith;
       cutLong = refl;
       workLong = refl;
       outLong = refl;
-      sum = z .clear .ensures ∙ rw (z .before .before .before .before .before .before .before .pre .room) (sums-none _ _ _);
+      sum = c .before .before .before .before .before .pre .zeros ∙ sums-none _ _ _;
     })
     (λ c. search needs)
     (λ c. search needs)
-    (λ c. omega (arith, column c))
-    (λ c. omega (arith, column c))
+    (λ c. omega (arith, fits c))
+    (λ c. omega (arith, fits c))
     cut-into-requires
     (λ c. search needs)
     (λ c. search needs)
@@ -123,6 +128,6 @@ sums-into-spec =
     (λ c. search needs)
     (λ c.
     let t = c .before .loop in
-    let s = c .before .before .before .before .before .before .before .before .before .before .before in
+    let s = c .before .before .before .before .before .before .before in
     let e : t .j ≡ s .args .l = omega (arith, t .inv .within, c .loop-test .left) in
     rw e at (t .inv .sum)))

@@ -3,7 +3,7 @@ use Prim.Native.Nat.{ℕ, _+_, _-_, _*_, _%_, _<_, _≤_}
 use mathlib.Core.Bool.{Bool, true, cond, not}
 use mathlib.Core.List.{List, map}
 use mathlib.Core.Path.{_≡_, refl, sym, _∙_, ap, fun-ext}
-use native.Mathlib.Nat.{mul-add, mul-le-mul, le-refl}
+use native.Mathlib.Nat.{mul-add, mul-le-mul, mul-le-mul-left, le-refl}
 use native.Mathlib.Omega.{arith}
 use lib.ListN.{length, take, drop, length-take, length-drop}
 use Rattle.lists.specs.Numbers.{Below}
@@ -22,6 +22,12 @@ use Rattle.rows.specs.Rooms.{sums}
 -- packed polynomials are no more than their bytes
 pub count-fits : (w count : ℕ) {bytes : ℕ} → 1 ≤ w → bytes ≡ 32 * w * count → count ≤ bytes
 count-fits w count h e = rw e (omega (arith, mul-le-mul h (le-refl count)))
+
+-- a place is among them where the last one is
+pub before-last : (start step n : ℕ) {count i : ℕ} → start + step * (n - 1) < count → i < n → start + step * i < count
+before-last start step n {i = i} h k =
+    let few : i ≤ n - 1 = omega arith in
+    omega (arith, mul-le-mul-left step few)
 
 -- what is cut at place x is polynomial x
 pub cut-part :
@@ -63,6 +69,7 @@ module _ (t : Bool) (l : ℕ) {row column : ℕ} (er : row ≡ cond (not t) l 1)
       λ k j. ap (λ (n : ℕ). poly A n) (place k j) ∙ rw (er, ec) (strided t l A (i + k) j) in
       sums-reduced (λ k. side t l A (i + k)) s 8192 n l refl (p ∙ ap (λ M. sums 65536 n l M s) (fun-ext (λ k. fun-ext (λ j. entry k j))))
 
-  -- each factor is one of the matrix
-  pub rows-parts : (i n : ℕ) → i + n ≤ l → (k j : ℕ) → k < n → j < l → row * i + column * j + row * k < l * l
-  rows-parts i n h k j hk hj = rw (er, ec) (omega (arith, within t l (i + k) j (omega arith) hj, mul-add (cond (not t) l 1) i k))
+  -- the last factor is one of the matrix
+  pub rows-last : (i n : ℕ) → 1 ≤ n → i + n ≤ l → row * i + column * (l - 1) + row * (n - 1) < l * l
+  rows-last i n some h =
+      rw (er, ec) (omega (arith, within t l (i + (n - 1)) (l - 1) (omega arith) (omega arith), mul-add (cond (not t) l 1) i (n - 1)))

@@ -5,9 +5,9 @@ use mathlib.Core.Path.{_≡_, refl, sym, _∙_, ap, ap₂}
 use native.Mathlib.Nat.{mul-suc}
 use native.Mathlib.Omega.{arith}
 use lib.IntN.{pos}
-use lib.ListN.{length, take, drop, replicate, length-map, length-take, length-drop}
+use lib.ListN.{length, take, drop, replicate, length-map, length-take, length-drop, replicate-append-replicate}
 use Rattle.lists.specs.Lists.{from}
-use Rattle.lists.specs.Laws.Lists.{from-add, map-from}
+use Rattle.lists.specs.Laws.Lists.{map-from}
 use Rattle.lists.specs.Laws.Parts.{mid-part}
 use Rattle.algebra.specs.Integers.{modℤ, sum}
 use Rattle.algebra.specs.Ring.{inner, nat, poly, blocks}
@@ -20,11 +20,12 @@ use Rattle.rows.specs.Rooms.{sums}
 
 module _ (M : ℕ → ℕ → List ℕ) (s : List ℕ) where
   -- the sums of no products are zeros
-  pub sums-none : (rows : ℕ) → from (256 * rows) (λ k. 0) ≡ sums 65536 rows 0 M s
+  pub sums-none : (rows : ℕ) → replicate (256 * rows) 0 ≡ sums 65536 rows 0 M s
   unfolding sums blocks inner sum from
   sums-none zero = refl
   sums-none (suc rows) =
-      rw mul-suc (from-add (256 * rows) 256 (λ k. 0) ∙ ap₂ _++_ (sums-none rows) (sym (map-from (λ z. modℤ z 65536) 256 (λ k. pos 0))))
+      rw mul-suc
+      (sym (replicate-append-replicate (256 * rows) 256 0) ∙ ap₂ _++_ (sums-none rows) (sym (map-from (λ z. modℤ z 65536) 256 (λ k. pos 0))))
 
   -- one product more in each row: the rows' factors stand one behind another, and polynomial j of s at 256 j
   pub sums-more :
@@ -44,7 +45,7 @@ module _ (M : ℕ → ℕ → List ℕ) (s : List ℕ) where
 -- two vectors: one row
 module _ (a s : List ℕ) where
   pub inner-none : replicate 256 0 ≡ innerMod 65536 0 a (nat s)
-  unfolding innerMod sums blocks from
+  unfolding innerMod sums blocks
   inner-none = sums-none (λ i j. poly a j) s 1
 
   pub inner-next :
