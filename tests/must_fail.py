@@ -97,7 +97,7 @@ def is_whole(words, name):
 def at_requires(words, proof):
     """Whether an error stands at what a call requires, by the name of its declaration, by the type asked for, or by the
     last step of the proof up to the error: such a step takes lifetimes too."""
-    if re.search(r"^`[^`]*-requires(?:-\d+)?`: |(?:expected type|no proof of) `\S*\.Asked ", words):
+    if re.search(r"^`[^`]*-requires(?:-\d+)?`: |(?:expected type|no proof of) `\S*\.Reads\.Asked ", words):
         return True
     steps = re.findall(r"^ +\(λ (c\b[^.]*)\.", proof, re.MULTILINE)
     return bool(steps) and steps[-1].endswith("κs")
@@ -200,7 +200,10 @@ SAMPLES = [
         "fn a::f: no proof: expected `f-spec` in proofs/f/Proof.antt; `search` does not close `returns`",
     ),
     ("search found no proof, at what a call requires", AT + "`g-requires-2`: " + SEARCH),
-    ("search found no proof, at what a call requires", AT + "`f-spec`: " + SEARCH.replace("A.Post c", "A.Asked κs c")),
+    (
+        "search found no proof, at what a call requires",
+        AT + "`f-spec`: " + SEARCH.replace("A.Post c", "A.Reads.Asked κs c"),
+    ),
     ("equations that do not join", AT + "`returns`: `cc`: the equations do not join `A` to `B`"),
     (
         "an equation whose ends differ",
