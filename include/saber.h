@@ -10,8 +10,8 @@
 //
 // - NO POINTER IS NULL, also where its count is 0. In C++ mind `data()` of an empty vector.
 // - COUNTS ARE TRUE: a count is of elements, not of bytes, and no greater than what the pointer points to. A call that is refused for its
-//   set, width or modulus, or for the count of an input, reads no buffer, all but saber_read_record. Any other may read and write as many
-//   elements as its counts say.
+//   set, width or modulus, or for the count of an input, reads no buffer; saber_read_record alone reads the start of its record first. Any
+//   other call may read and write as many elements as its counts say.
 // - AN OUTPUT OVERLAPS NO OTHER BUFFER of its call, so no call works in place; what it would write then is not defined. Inputs may overlap.
 // - SEEDS, z among them, ARE FRESH, UNPREDICTABLE AND USED ONCE: 32 bytes that the system's generator (getrandom, getentropy) gives for
 //   this one call, kept secret and erased after it. The calls below say what goes wrong otherwise.

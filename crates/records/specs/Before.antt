@@ -22,7 +22,7 @@ bit m k = m / 2 ^ k % 2
 abbrev pub stands : ℕ → ℕ → Bool
 stands m k = eqb (bit m k) 1
 
--- "only fields whose bit stands follow, in bit order": a door begins at 1, a time, the set and the capsule at these places
+-- "only fields whose bit stands follow, in bit order": a door begins at 1, a time, the set and the ciphertext at these places
 abbrev pub timeAt : ℕ → ℕ
 timeAt m = 1 + bit m 0 * 2
 
@@ -76,7 +76,7 @@ abbrev pub timePart : Time → ℕ × List ℕ
 timePart time.Missing = (0, [])
 timePart (time.Number x) = (2, bytes 8 x)
 
--- "a writer": the record of an entry. 4 and 8 are the bits of the set and the capsule
+-- "a writer": the record of an entry. 4 and 8 are the bits of the set and the ciphertext
 unfoldable pub recordOf : Head → List ℕ → List ℕ
 recordOf h ciphertext =
     let d = doorPart (h .door) in
