@@ -4,7 +4,8 @@ A line is a call's name and its arguments, one space between words: numbers in d
 pairs, lists as four hex digits a coefficient, signed lists in decimal with commas between, as `0,-4,4`;
 `-` for an empty string or list and for a number that is missing. An output argument is the content of
 the buffer that is lent. The answer is the call's number, the numbers that it hands back, then every
-output as it is after the call. Lines that begin with `#` are comments.
+output as it is after the call. Lines that begin with `#` are comments. A line ends in a newline or in a
+carriage return and a newline; the last one may lack it.
 
     python3 oracle/notation.py < requests > answers
 """
@@ -126,9 +127,9 @@ def answer_line(line):
 
 
 def lines_of(requests):
-    """The lines, without newlines; after a final newline there is no further line."""
-    lines = requests.split(b"\n")
-    return lines if lines[-1] else lines[:-1]
+    """The lines, without their ends; after a final newline there is no further line."""
+    *ended, last = requests.split(b"\n")
+    return [line.removesuffix(b"\r") for line in ended] + ([last] if last else [])
 
 
 def answer_lines(requests):

@@ -807,7 +807,7 @@ def signed_notation():
         b"", b",", b",,", b"0,", b",0", b"0,,0", b",0,", b"-,", b",-", b"-,-", b"0,-", b"-,0", b"0,-,0", b"--", b"--4",
         b"0,--4", b"4-", b"4-4", b"-4-", b"0-", b"-0-", b"+4", b"+", b"0,+4", b"-+4", b"+-4", b"0x4", b"4.0", b"4;4",
         b"1e1", b"1_0", b"a", b"0a", b"a0", b"0,a", b"00a0", b"-a", b"0/", b"0:", b"/", b":", b"0.", b"0'", b"4\t",
-        b"\t4", b"0,\t4", b"4\r", b"4\0", b"\0", b"\xff", b"0,\xff", b"\xe2\x88\x924", b"\xd9\xa3", b"#", b"0,#",
+        b"\t4", b"0,\t4", b"4\r,4", b"4\0", b"\0", b"\xff", b"0,\xff", b"\xe2\x88\x924", b"\xd9\xa3", b"#", b"0,#",
         every + b",", b"," + every, every + b"," + every.replace(b"-77", b"-77-"), b"0" * 5000 + b"-",
     )
     yield "# notation: signed lists with a number out of -128 .. 127"
@@ -863,7 +863,7 @@ def notation_section():
         "unknown call",
         b"", b" ", b"  ", b" pack 5 - -", b"no_such_call", b"no_such_call 1 2 3", b"no_such_call \xff",
         b"Pack 5 - -", b"PACK 5 - -", b"pac 5 - -", b"packs 5 - -", b"pack,5,-,-", b"-", b"0", b"error",
-        b"pack\t5 - -", b"pack\r", b"\r", b"pack\0 5 - -", b"\0", b"\xff\xfe",
+        b"pack\t5 - -", b"pack\r 5 - -", b"\r", b"pack\0 5 - -", b"\0", b"\xff\xfe",
         b"\xef\xbb\xbfpack 5 - -", b" # no comment", b"public_key", b"public_key_of_ 1 -",
         b"unpack_ 5 - -", b"poly_mul_ 1024 - - -", b"poly_mul_karatsub 1024 - - -", b"poly_mul_karatsuba_ 1024 - - -",
         b"karatsuba 1024 - - -",
@@ -1053,6 +1053,20 @@ def notation_section():
     yield "#pack 5 - a5a6"
     yield "#\0\xff\r"
     yield "# a comment of 70000 bytes " + "#" * 69973
+    yield from normal()
+
+    yield "# notation: a carriage return before the newline belongs to the end of the line, one elsewhere does not"
+    yield Line(b"pack 5 - a5a6\r", b"2 a5a6")
+    yield Line(b"gen_secret 4 - 0,-4\r", b"1 0,-4")
+    yield Line(b"public_key_of 4 -\r", b"-")
+    yield "# a comment\r"
+    yield from unreadable("unknown call", b"no_such_call\r", b"\r\r")
+    yield from unreadable("wrong count", b"pack\r", b"pack 5 - - \r")
+    yield from unreadable("odd count", b"pack 5 - a5\r\r")
+    yield from unreadable("bad digit", b"pack 5 - a\r\r", b"gen_secret 4 - 4\r\r", b"gen_secret 4 - \r4\r")
+    yield Line(padded(b"unpack 13 - ", 65536) + b"\r", padded(b"7 ", 65526))
+    for end in (b"0", b"0\r", b"\r\r", b"\r0", b"0\r0", b"\r\r\r"):
+        yield from unreadable("too long", padded(b"unpack 13 - ", 65536) + end)
     yield from normal()
 
     yield "# notation: lines of 65536 bytes, and longer ones"

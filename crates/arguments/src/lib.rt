@@ -177,21 +177,23 @@ pub fn signed_front(list: &[i8], n: usize) -> &[i8] {
     &list[0..end]
 }
 
-pub fn print(text: &[u8]) {
-    io::write_all(1, text);
+// The functions below print, and say whether all was written. After the first write that fails there is none.
+
+pub fn print(text: &[u8]) -> bool {
+    streams::write_all(text)
 }
 
-pub fn print_word(bytes: &[u8], text: &mut Text) {
+pub fn print_word(bytes: &[u8], text: &mut Text) -> bool {
     let n = notation::word_into(bytes, text);
-    print(front(text, n));
+    print(front(text, n))
 }
 
 // Prints a space and then an output, where there is one.
-fn print_output(wanted: bool, bytes: &[u8], text: &mut Text) {
+fn print_output(wanted: bool, bytes: &[u8], text: &mut Text) -> bool {
     if wanted {
-        print(b" ");
-        print_word(bytes, text);
+        return print(b" ") && print_word(bytes, text);
     }
+    true
 }
 
 // Prints an answer and every output, the list by way of bytes.
@@ -203,36 +205,33 @@ pub fn print_answer(
     result: &[u16],
     spare: &mut Bytes,
     text: &mut Text,
-) {
-    io::print_decimal(1, answer as u64);
-    print_output(shape.byte_outputs > 0, output, text);
-    print_output(shape.byte_outputs > 1, extra, text);
+) -> bool {
     let n = notation::bytes_into(result, spare);
-    print_output(shape.list_outputs > 0, front(spare, n), text);
+    streams::print_decimal(answer as u64)
+        && print_output(shape.byte_outputs > 0, output, text)
+        && print_output(shape.byte_outputs > 1, extra, text)
+        && print_output(shape.list_outputs > 0, front(spare, n), text)
 }
 
 // Prints an answer and signed numbers.
-pub fn print_signed(answer: u8, list: &[i8], text: &mut Text) {
-    io::print_decimal(1, answer as u64);
-    print(b" ");
+pub fn print_signed(answer: u8, list: &[i8], text: &mut Text) -> bool {
     let n = notation::signed_into(list, text);
-    print(front(text, n));
+    streams::print_decimal(answer as u64) && print(b" ") && print(front(text, n))
 }
 
 // Prints a space and then a number, a door or a time, which is `-` where it is missing.
-fn print_number(x: u64) {
-    print(b" ");
-    io::print_decimal(1, x);
+fn print_number(x: u64) -> bool {
+    print(b" ") && streams::print_decimal(x)
 }
 
-fn print_door(door: Door) {
+fn print_door(door: Door) -> bool {
     match door {
         Door::Number(x) => print_number(x as u64),
         Door::Missing => print(b" -"),
     }
 }
 
-fn print_time(time: Time) {
+fn print_time(time: Time) -> bool {
     match time {
         Time::Number(x) => print_number(x),
         Time::Missing => print(b" -"),
@@ -240,39 +239,23 @@ fn print_time(time: Time) {
 }
 
 // Prints the answer of reading a record, and the numbers of its entry.
-pub fn print_read(read: Read) {
+pub fn print_read(read: Read) -> bool {
     match read {
         Read::Entry(head) => {
             let door = head.door;
             let time = head.time;
-            print(b"0");
-            print_door(door);
-            print_time(time);
-            print_number(head.set as u64);
+            print(b"0") && print_door(door) && print_time(time) && print_number(head.set as u64)
         }
-        Read::Refused(answer) => {
-            io::print_decimal(1, answer as u64);
-            print(b" - - -");
-        }
+        Read::Refused(answer) => streams::print_decimal(answer as u64) && print(b" - - -"),
     }
 }
 
-// Prints what is wrong with a line, and says whether anything is.
+// Prints what is wrong with a line.
 pub fn print_fault(fault: u8) -> bool {
-    if fault == notation::SOUND {
-        return false;
+    match fault {
+        notation::WRONG_COUNT => print(b"error wrong count"),
+        notation::BAD_DIGIT => print(b"error bad digit"),
+        notation::ODD_COUNT => print(b"error odd count"),
+        _ => print(b"error too large"),
     }
-    if fault == notation::WRONG_COUNT {
-        print(b"error wrong count");
-    }
-    if fault == notation::BAD_DIGIT {
-        print(b"error bad digit");
-    }
-    if fault == notation::ODD_COUNT {
-        print(b"error odd count");
-    }
-    if fault == notation::TOO_LARGE {
-        print(b"error too large");
-    }
-    true
 }

@@ -9,6 +9,8 @@ use notation::Shape;
 use notation::Signed;
 use notation::Text;
 
+// All functions here print, and say whether all was written. After the first write that fails there is none.
+
 // Makes a call and prints its answer. A list or an output is the front of its buffer.
 fn answer_call(
     call: Call,
@@ -22,7 +24,7 @@ fn answer_call(
     result: &mut [u16],
     spare: &mut Bytes,
     text: &mut Text,
-) {
+) -> bool {
     let ends = a.ends;
     let o = notation::least(arguments::part(bytes, ends, 5).len(), output.len());
     let p = notation::least(arguments::part(bytes, ends, 6).len(), extra.len());
@@ -47,26 +49,26 @@ fn answer_call(
         arguments::list_front(result, q),
         spare,
         text,
-    );
+    )
 }
 
 // Samples a secret, and prints it, which is the front of its buffer.
-fn answer_secret(a: Arguments, bytes: &[u8], signed: &mut [i8], text: &mut Text) {
+fn answer_secret(a: Arguments, bytes: &[u8], signed: &mut [i8], text: &mut Text) -> bool {
     let ends = a.ends;
     let n = notation::least(a.signed, signed.len());
     let seed = arguments::part(bytes, ends, 0);
     let answer = sampling::gen_secret(a.numbers.number, seed, &mut signed[0..n]);
-    arguments::print_signed(answer, arguments::signed_front(signed, n), text);
+    arguments::print_signed(answer, arguments::signed_front(signed, n), text)
 }
 
 // Reads a record, and prints its entry and the ciphertext, which is the front of its buffer.
-fn answer_read(a: Arguments, bytes: &[u8], ciphertext: &mut [u8], text: &mut Text) {
+fn answer_read(a: Arguments, bytes: &[u8], ciphertext: &mut [u8], text: &mut Text) -> bool {
     let ends = a.ends;
     let n = notation::least(arguments::part(bytes, ends, 5).len(), ciphertext.len());
     let read = records::read_record(arguments::part(bytes, ends, 0), &mut ciphertext[0..n]);
-    arguments::print_read(read);
-    arguments::print(b" ");
-    arguments::print_word(arguments::front(ciphertext, n), text);
+    arguments::print_read(read)
+        && arguments::print(b" ")
+        && arguments::print_word(arguments::front(ciphertext, n), text)
 }
 
 // Prints the reply to a request: what it asks for, or why it cannot be read.
@@ -82,9 +84,9 @@ pub fn reply(
     signed: &mut Signed,
     spare: &mut Bytes,
     text: &mut Text,
-) {
-    if arguments::print_fault(a.fault) {
-        return;
+) -> bool {
+    if a.fault != notation::SOUND {
+        return arguments::print_fault(a.fault);
     }
     let ends = a.ends;
     let request = row.request;
@@ -106,7 +108,7 @@ pub fn reply(
         Request::GenSecret => answer_secret(a, bytes, signed, text),
         Request::PublicKeyOf => {
             let key = keys::public_key_of(a.numbers.number, arguments::part(bytes, ends, 0));
-            arguments::print_word(key, text);
+            arguments::print_word(key, text)
         }
         Request::ReadRecord => answer_read(a, bytes, output, text),
     }

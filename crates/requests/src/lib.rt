@@ -24,8 +24,8 @@ fn text_buffer() -> Text {
     [0; 163840]
 }
 
-// Answers a request whose arguments start at a place of the line.
-fn answer_request(row: Row, line: &[u8], at: usize)
+// Answers a request whose arguments start at a place of the line, and says whether all was written.
+fn answer_request(row: Row, line: &[u8], at: usize) -> bool
     requires { ⌜ length (now line) ≤ 65536 ⌝ }
 {
     let mut bytes = byte_buffer();
@@ -51,7 +51,7 @@ fn answer_request(row: Row, line: &[u8], at: usize)
         &mut signed,
         &mut spare,
         &mut text,
-    );
+    )
 }
 
 fn is_comment(line: &[u8]) -> bool {
@@ -62,19 +62,18 @@ fn is_comment(line: &[u8]) -> bool {
     }
 }
 
-// Answers a line, unless it is a comment.
-pub fn answer(line: &[u8]) {
+// Answers a line, unless it is a comment, and says whether all was written.
+pub fn answer(line: &[u8]) -> bool {
     if is_comment(line) {
-        return;
+        return true;
     }
     if line.len() > 65536 {
-        arguments::print(b"error too long\n");
-        return;
+        return arguments::print(b"error too long\n");
     }
     let end = notation::word_end(line, 0);
-    match calls::row_of(&line[0..end]) {
+    let is_written = match calls::row_of(&line[0..end]) {
         Found::Row(row) => answer_request(row, line, end + 1),
         Found::Nothing => arguments::print(b"error unknown call"),
-    }
-    arguments::print(b"\n");
+    };
+    is_written && arguments::print(b"\n")
 }

@@ -6,4 +6,4 @@ use Rattle.sabercall.specs.declared.State.{State}
 pub record Good (s : State) : Type 0 where
   pub at-in : s .at ≤ s .end
   pub end-in : s .end ≤ 65536
-  pub kept-in : s .kept ≤ 65537
+  pub kept-in : s .kept ≤ 65538

@@ -5,10 +5,10 @@ ghost use Rattle.sabercall.specs.Rooms.{Good};
 
 type Block = [u8; 65536];
 
-// A line of 65,536 bytes, with a place more by which a longer one is known.
-type Line = [u8; 65537];
+// A line of 65,536 bytes, with a place more for a carriage return at its end, and one by which a longer line is known.
+type Line = [u8; 65538];
 
-// Where the waiting bytes of the block are, how many bytes the line has, and whether there may be more input.
+// Where the waiting bytes of the block are, how many bytes the line has, and whether there may be more to do.
 struct State {
     at: usize,
     end: usize,
@@ -16,40 +16,58 @@ struct State {
     open: bool,
 }
 
-// Answers the line of the first `kept` bytes.
-fn answer(line: &[u8], kept: usize)
+// Answers the line of the first `kept` bytes. Where a write fails, says so and that there is no more to do.
+fn answer(line: &[u8], kept: usize) -> bool
     requires { ⌜ kept ≤ length (now line) ⌝ }
 {
-    requests::answer(&line[0..kept]);
+    let is_written = requests::answer(&line[0..kept]);
+    if !is_written {
+        os::fail(b"sabercall: standard output");
+    }
+    is_written
 }
 
 // Keeps a byte at the end of a line, where there is room.
 fn keep(line: &mut Line, kept: usize, b: u8) -> usize
-    requires { ⌜ kept ≤ 65537 ⌝ }
-    ensures { λ r. ⌜ r ≤ 65537 ⌝ }
+    requires { ⌜ kept ≤ 65538 ⌝ }
+    ensures { λ r. ⌜ r ≤ 65538 ⌝ }
 {
-    if kept < 65537 {
+    if kept < 65538 {
         line[kept] = b;
         return kept + 1;
     }
     kept
 }
 
-// Reads another block. Input that ends in the middle of a line ends the line.
+// How many bytes a line has before its newline: a carriage return there belongs to the end of the line.
+fn length_of(line: &Line, kept: usize) -> usize
+    requires { ⌜ kept ≤ 65538 ⌝ }
+    ensures { λ r. ⌜ r ≤ 65538 ⌝ }
+{
+    if kept > 0 {
+        if line[kept - 1] == b'\r' {
+            return kept - 1;
+        }
+    }
+    kept
+}
+
+// Reads another block. Input that ends in the middle of a line ends the line. Where it fails, that is said, and the line has no answer.
 fn refill(block: &mut Block, line: &Line, kept: usize) -> State
-    requires { ⌜ kept ≤ 65537 ⌝ }
+    requires { ⌜ kept ≤ 65538 ⌝ }
     ensures { λ r. ⌜ Good r ⌝ }
 {
-    let got = libc::read(0, block);
-    let n = io::count(got, block);
-    if (n == 0) & (kept > 0) {
+    let got = streams::read(block);
+    if got.failed {
+        os::fail(b"sabercall: standard input");
+    } else if !got.open & (kept > 0) {
         answer(line, kept);
     }
     State {
         at: 0,
-        end: n,
+        end: got.count,
         kept,
-        open: n > 0,
+        open: got.open,
     }
 }
 
@@ -65,12 +83,12 @@ fn turn(block: &mut Block, line: &mut Line, s: State) -> State
     }
     let b = block[at];
     if b == b'\n' {
-        answer(line, s.kept);
+        let n = length_of(line, s.kept);
         return State {
             at: at + 1,
             end,
             kept: 0,
-            open: true,
+            open: answer(line, n),
         };
     }
     State {
@@ -82,7 +100,7 @@ fn turn(block: &mut Block, line: &mut Line, s: State) -> State
 }
 
 fn line_buffer() -> Line {
-    [0; 65537]
+    [0; 65538]
 }
 
 // A proved loop has to end, and nothing says that the input does, so the turns are counted down from a number that no run uses up.

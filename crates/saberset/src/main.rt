@@ -1,29 +1,31 @@
-// Prints the table of the parameter sets.
+// Prints the table of the parameter sets. Each function here says whether all was written; after the first write that fails there is none.
 
 // Prints a number and a space.
-fn column(x: usize) {
-    io::print_decimal(1, x as u64);
-    io::write_all(1, b" ");
+fn column(x: usize) -> bool {
+    streams::print_decimal(x as u64) && streams::write_all(b" ")
 }
 
 // Prints a set's line.
-fn row(set: u32) {
+fn row(set: u32) -> bool {
     let p = sets::set_params(set);
-    column(set as usize);
-    column(p.l);
-    column(p.mu);
-    column(p.t as usize);
-    column(p.g as usize);
-    column(p.pk);
-    column(p.sk);
-    column(p.ct);
-    io::print_decimal(1, p.margin as u64);
-    io::write_all(1, b"\n");
+    column(set as usize)
+        && column(p.l)
+        && column(p.mu)
+        && column(p.t as usize)
+        && column(p.g as usize)
+        && column(p.pk)
+        && column(p.sk)
+        && column(p.ct)
+        && streams::print_decimal(p.margin as u64)
+        && streams::write_all(b"\n")
 }
 
 fn main() {
-    io::write_all(1, b"set l mu t g pk sk ct margin\n");
-    row(1);
-    row(2);
-    row(3);
+    let is_written = streams::write_all(b"set l mu t g pk sk ct margin\n")
+        && row(1)
+        && row(2)
+        && row(3);
+    if !is_written {
+        os::fail(b"saberset: standard output");
+    }
 }
