@@ -59,7 +59,7 @@ enum { SABER_SET_DEFAULT = 0, SABER_SET_LIGHTSABER = 1, SABER_SET_SABER = 2, SAB
 // Sizes of every set: coefficients of a polynomial, and bytes.
 enum { SABER_N = 256, SABER_SEED_BYTES = 32, SABER_MESSAGE_BYTES = 32, SABER_SHARED_SECRET_BYTES = 32 };
 
-// Sizes of each set in bytes, and its rank l, the count of polynomials in a vector. A plain secret is the start of a secret key.
+// Sizes of each set in bytes, and its rank, the count of polynomials in a vector. A plain secret is the start of a secret key.
 enum {
     LIGHTSABER_RANK = 2,
     LIGHTSABER_PUBLIC_KEY_BYTES = 672,
@@ -122,7 +122,7 @@ static inline const uint8_t *saber_public_key_of(uint32_t set, const uint8_t *se
 uint8_t saber_encrypt(uint32_t set, const uint8_t *public_key, size_t public_key_count, const uint8_t *message, size_t message_count,
                       const uint8_t *seed, size_t seed_count, uint8_t *ciphertext, size_t ciphertext_count);
 
-// Decrypts to a message of 32 bytes with the plain secret, the first 416 x l bytes of a secret key. Refusals: 1, 5, 6, 9.
+// Decrypts to a message of 32 bytes with the plain secret, the first 416 x rank bytes of a secret key. Refusals: 1, 5, 6, 9.
 uint8_t saber_decrypt(uint32_t set, const uint8_t *plain_secret, size_t plain_secret_count, const uint8_t *ciphertext,
                       size_t ciphertext_count, uint8_t *message, size_t message_count);
 
@@ -147,12 +147,12 @@ uint8_t saber_read_record(const uint8_t *record, size_t record_count, uint8_t *h
 
 // Sampling
 
-// The matrix of a seed of 32 bytes: 256 x l x l coefficients below 8192, row by row. Refusals: 1, 3, 9.
+// The matrix of a seed of 32 bytes: 256 x rank x rank coefficients below 8192, row by row. Refusals: 1, 3, 9.
 uint8_t saber_gen_matrix(uint32_t set, const uint8_t *seed, size_t seed_count, uint16_t *matrix, size_t matrix_count);
 
-// The secret of a seed of 32 bytes: 256 x l signed coefficients, in -mu/2 .. mu/2: -5 .. 5 in set 1, -4 .. 4 in set 2, -3 .. 3 in set 3.
-// No residue is written: who packs or multiplies coefficients first adds the modulus to each negative one, 8192, or 1024 for a product
-// modulo 1024. Refusals: 1, 3, 9.
+// The secret of a seed of 32 bytes: 256 x rank signed coefficients, in -mu/2 .. mu/2: -5 .. 5 in set 1, -4 .. 4 in set 2, -3 .. 3 in
+// set 3. No residue is written: who packs or multiplies coefficients first adds the modulus to each negative one, 8192, or 1024 for a
+// product modulo 1024. Refusals: 1, 3, 9.
 uint8_t saber_gen_secret(uint32_t set, const uint8_t *seed, size_t seed_count, int8_t *secret, size_t secret_count);
 
 // Polynomials of 256 coefficients. None of these works in place.
@@ -175,10 +175,10 @@ uint8_t saber_recon_data(uint32_t set, const uint16_t *w, size_t w_count, uint16
 uint8_t saber_recover(uint32_t set, const uint16_t *v, size_t v_count, const uint16_t *data, size_t data_count, uint16_t *bits,
                       size_t bits_count);
 
-// Packs coefficients of `width` bits into 32 x width bytes, least significant bit first. Refusals: 2, 7, 8, 9.
+// Packs 256 coefficients of `width` bits into 32 x width bytes, least significant bit first. Refusals: 2, 7, 8, 9.
 uint8_t saber_pack(uint32_t width, const uint16_t *coefficients, size_t coefficients_count, uint8_t *bytes, size_t bytes_count);
 
-// Unpacks 32 x width bytes into coefficients of `width` bits. Refusals: 2, 7, 9.
+// Unpacks 32 x width bytes into 256 coefficients of `width` bits. Refusals: 2, 7, 9.
 uint8_t saber_unpack(uint32_t width, const uint8_t *bytes, size_t bytes_count, uint16_t *coefficients, size_t coefficients_count);
 
 // Hashes of an input of any length. None works in place: the hash of a hash goes to a second buffer. An empty input or output has count 0

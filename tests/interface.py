@@ -4,9 +4,10 @@
 
 Constants are held to the oracle's sets, functions and their parameters to crates/saber/src/lib.rt, and those to the
 oracle's calls. Nothing may lack and nothing may be there besides. So are the refusals that the header names, and the
-lists of calls in tests/stack.c, tests/secrets.c and tests/unread.c. Then each text is changed in one number, sign, type
-or `const`, in the order of two parameters or by a declaration, and every change has to be found. It exits with 1 on a
-difference.
+lists of calls in tests/stack.c, tests/secrets.c and tests/unread.c. What the package says of a refusal is held to the
+header's words, and the numbers in the prose of both to the oracle (prose.py). Then each text is changed in one number,
+sign, type or `const`, in the order of two parameters or by a declaration, and every change has to be found. It exits
+with 1 on a difference.
 
 What is compared are dictionaries. A function has an entry for its result and one for each parameter as C passes it, in
 Rust's words: a slice is a pointer, as `*const u8`, `*mut u16` or `*mut i8`, and a count. A number that may be missing
@@ -14,7 +15,6 @@ is a flag and the number, and a number that is handed back is lent.
 """
 
 import functools
-import itertools
 import re
 import sys
 from pathlib import Path
@@ -23,17 +23,14 @@ ROOT = Path(__file__).resolve().parent.parent
 sys.path.append(str(ROOT / "oracle"))
 
 import saber
-from calls import CALLS, run
+from calls import CALLS
+from prose import HEADER, PACKAGE, Unreadable, changed_numbers, lengths, only, prose_differences, refusals
 
-LIBRARY, HEADER, PACKAGE = "crates/saber/src/lib.rt", "include/saber.h", "bindings/rust/src/lib.rs"
+LIBRARY = "crates/saber/src/lib.rt"
 STACK, SECRETS, UNREAD = "tests/stack.c", "tests/secrets.c", "tests/unread.c"
 NAMES = {number: name.upper() for number, name in saber.NAMES.items()}
 SIZES = ("public_key", "secret_key", "plain_secret", "ciphertext")  # of a set, in bytes
 ELEMENTS = {"bytes": "[u8]", "list": "[u16]", "signed": "[i8]"}
-
-
-class Unreadable(Exception):
-    """A form that is not known here; its text is where."""
 
 
 def code(text):
@@ -62,40 +59,6 @@ def entries(name, parameters, result):
 # What the oracle says
 
 
-def answer(name, *arguments):
-    return run(name, *arguments)[0]
-
-
-def refusals():
-    """The number of each refusal: the oracle's answers to calls that pass the questions before it."""
-    secret_key = bytes(saber.SETS[2].secret_key)
-    return {
-        "unknown_set": answer("encaps", 4, b"", b"", b"", b""),
-        "seed_length": answer("encaps", 2, b"", b"", b"", b""),
-        "public_key_length": answer("encaps", 2, b"", bytes(32), b"", b""),
-        "secret_key_length": answer("decaps", 2, b"", b"", b""),
-        "ciphertext_length": answer("decaps", 2, secret_key, b"", b""),
-        "unknown_number": answer("pack", 2, [], b""),
-        "input_length": answer("pack", 1, [], b""),
-        "coefficient_range": answer("pack", 1, [2] * saber.N, b""),
-        "output_length": answer("pack", 1, [1] * saber.N, b""),
-        "record_map": answer("read_record", b"", b""),
-        "record_length": answer("read_record", bytes([12]), b""),
-        "record_door": answer("read_record", bytes([28, 0, 0, 0, 0, 2]) + bytes(saber.SETS[2].ciphertext), b""),
-    }
-
-
-def lengths():
-    """Bytes of a seed, the count that encapsulation takes, of a message and of a shared secret."""
-    set, refused = saber.SETS[2], refusals()["seed_length"]
-    ciphertext = bytes(set.ciphertext)
-    return {
-        "seed": next(n for n in itertools.count() if answer("encaps", 2, b"", bytes(n), b"", b"") != refused),
-        "message": len(saber.decrypt(set, bytes(set.plain_secret), ciphertext)),
-        "shared_secret": len(saber.decaps(set, bytes(set.secret_key), ciphertext)),
-    }
-
-
 @functools.cache
 def header_constants():
     found = {"SABER_OK": 0, "SABER_SET_DEFAULT": 0, "SABER_N": saber.N}
@@ -107,32 +70,22 @@ def header_constants():
     return found
 
 
+def refusal_name(name):
+    """In the package."""
+    return name.title().replace("_", "")
+
+
 @functools.cache
 def package_constants():
-    [seed] = {*lengths().values()}  # one constant for all three
+    seed = only("the length of a seed, a message and a shared secret", lengths().values())
     found = {"SEED": seed, "N": saber.N, "answer 0": "return Ok(())"}
     for name, number in refusals().items():
-        refusal = f"Refusal::{name.title().replace('_', '')}"
+        refusal = f"Refusal::{refusal_name(name)}"
         found |= {refusal: number, f"answer {number}": refusal}
     for number, set in saber.SETS.items():
         fields = {"number": number, "rank": set.l, **{size: getattr(set, size) for size in SIZES}}
         found |= {f"{NAMES[number]}.{field}": value for field, value in fields.items()}
     return found
-
-
-def sentences():
-    """Sentences with the oracle's numbers that header and package have."""
-
-    def listed(numbers):
-        *first, last = map(str, numbers)
-        return f"{', '.join(first)} or {last}"
-
-    return [
-        f"the set number is not {listed([0, *saber.SETS])}, or a record's set byte not {listed(saber.SETS)}",
-        f"the packing width is not {listed(saber.WIDTHS)}, or the modulus not {listed(saber.MODULI)}",
-        f"0 means the same as {saber.DEFAULT}",
-        ", ".join(f"-{set.mu // 2} .. {set.mu // 2} in set {number}" for number, set in saber.SETS.items()),
-    ]
 
 
 def typed(parameter, lent):
@@ -362,11 +315,15 @@ def listed_entries(texts):
         found[f"{name} in {UNREAD}"] = "run"
     for by, name in re.findall(r"\bBY_(LENGTHS|CONTENT), (\w+),", texts[SECRETS]):
         found.setdefault(f"{name} in {SECRETS}", {by}).add(by)
+    for name, words in re.findall(r'Refusal::(\w+) => "([^"]*)"', texts[PACKAGE]):
+        found[f"words of {name}"] = words
     return found
 
 
-def expected_lists():
-    found = {}
+def expected_lists(texts):
+    """By the oracle's table; the words of each refusal are the header's."""
+    words = dict(re.findall(r"^    SABER_(\w+) = \d+,? +// (.*)", texts[HEADER], re.MULTILINE))
+    found = {f"words of {refusal_name(name)}": words.get(name.upper()) for name in refusals()}
     for name, call in CALLS.items():
         if call.outputs:
             found[f"refusals of saber_{name}"] = [str(number) for number in call.questions]
@@ -448,23 +405,36 @@ def changes(place, text):
                 yield text[: group.start(1)] + exchanged + text[group.end(1) :]
 
 
+def listed_differences(texts):
+    """A line each, of lists and prose."""
+    try:
+        found = compared("lists", listed_entries(texts), expected_lists(texts))
+        return found + [line for place in (HEADER, PACKAGE) for line in prose_differences(place, texts[place])]
+    except Unreadable as reason:
+        return [str(reason)]
+
+
+def tried(texts, place, changes, differences):
+    """How many changes of a text are tried. One that is not found ends the script."""
+    count = 0
+    for count, changed in enumerate(changes, 1):
+        if not differences(texts | {place: changed}):
+            pairs = zip(changed.splitlines(), texts[place].splitlines())
+            sys.exit(f"{place}: a change is not found: {next(new for new, old in pairs if new and new != old)}")
+    return count
+
+
 def main():
     texts = {place: (ROOT / place).read_text() for place in (LIBRARY, HEADER, PACKAGE, STACK, SECRETS, UNREAD)}
     codes = {place: code(texts[place]) for place in (LIBRARY, HEADER, PACKAGE)}
-    found = differences(codes) + compared("lists", listed_entries(texts), expected_lists())
-    for place in (HEADER, PACKAGE):
-        found += [f"{place}: lacks `{line}`" for line in sentences() if line not in texts[place]]
+    found = differences(codes) + listed_differences(texts)
     if found:
         sys.exit("\n".join(found))
-    tried = 0
-    for place, text in codes.items():
-        for changed in changes(place, text):
-            tried += 1
-            if not differences(codes | {place: changed}):
-                line = next(new for new, old in zip(changed.splitlines(), text.splitlines()) if new != old)
-                sys.exit(f"{place}: a change is not found: {line}")
+    count = sum(tried(codes, place, changes(place, text), differences) for place, text in codes.items())
+    for place in (HEADER, PACKAGE):
+        count += tried(texts, place, changed_numbers(texts[place]), listed_differences)
     functions, constants = exported(codes[LIBRARY]), [*header_constants(), *package_constants()]
-    print(f"interface: {len(functions)} functions and {len(constants)} constants agree, {tried} changes are found")
+    print(f"interface: {len(functions)} functions and {len(constants)} constants agree, {count} changes are found")
 
 
 if __name__ == "__main__":

@@ -116,27 +116,28 @@ macro_rules! calls {
 }
 
 calls! {
-    /// Makes a key pair from two seeds and z, the bytes of which rejected secrets are made. Who guesses the secret seed has the secret
-    /// key. Who guesses z tells a rejected secret from a shared one. A matrix seed used twice lets work against one key serve against the
-    /// other.
+    /// Makes a key pair from two seeds and z, the bytes of which rejected secrets are made, 32 bytes each. Who guesses the secret seed has
+    /// the secret key. Who guesses z tells a rejected secret from a shared one. A matrix seed used twice lets work against one key serve
+    /// against the other.
     keygen = saber_keygen [set] (matrix_seed: u8, secret_seed: u8, z: u8) => (public_key: u8, secret_key: u8);
-    /// Encapsulation: a ciphertext, and the shared secret of 32 bytes. Who guesses the seed has the shared secret, and a seed used twice
-    /// with one key gives the same secret twice.
+    /// Encapsulation: from a public key and a seed of 32 bytes, a ciphertext and the shared secret of 32 bytes. Who guesses the seed has
+    /// the shared secret, and a seed used twice with one key gives the same secret twice.
     encaps = saber_encaps [set] (public_key: u8, seed: u8) => (ciphertext: u8, shared_secret: u8);
-    /// Decapsulation: the shared secret. A ciphertext that was not made for this key is no refusal: it gives the rejected secret, SHA3-256
-    /// of z followed by SHA3-256 of the ciphertext.
+    /// Decapsulation: the shared secret of 32 bytes. A ciphertext that was not made for this key is no refusal: it gives the rejected
+    /// secret, SHA3-256 of z followed by SHA3-256 of the ciphertext.
     decaps = saber_decaps [set] (secret_key: u8, ciphertext: u8) => (shared_secret: u8);
     /// Encrypts a message of 32 bytes with a secret seed of 32 bytes. Who guesses the seed reads the message, and a seed used twice with
     /// one key shows in which bits two messages differ.
     encrypt = saber_encrypt [set] (public_key: u8, message: u8, seed: u8) => (ciphertext: u8);
-    /// Decrypts to a message of 32 bytes with the plain secret. By itself it withstands no chosen ciphertexts: who has some of his own
-    /// decrypted and sees the messages finds the plain secret. Programs that exchange secrets use [`decaps`].
+    /// Decrypts to a message of 32 bytes with the plain secret, the first 416 x rank bytes of a secret key. By itself it withstands no
+    /// chosen ciphertexts: who has some of his own decrypted and sees the messages finds the plain secret. Programs that exchange secrets
+    /// use [`decaps`].
     decrypt = saber_decrypt [set] (plain_secret: u8, ciphertext: u8) => (message: u8);
-    /// The matrix of a seed: 256 x rank x rank coefficients below 8192, row by row.
+    /// The matrix of a seed of 32 bytes: 256 x rank x rank coefficients below 8192, row by row.
     gen_matrix = saber_gen_matrix [set] (seed: u8) => (matrix: u16);
-    /// The secret of a seed: 256 x rank signed coefficients, in -mu/2 .. mu/2: -5 .. 5 in set 1, -4 .. 4 in set 2, -3 .. 3 in set 3. No
-    /// residue is written: who packs or multiplies coefficients first adds the modulus to each negative one, 8192, or 1024 for a product
-    /// modulo 1024.
+    /// The secret of a seed of 32 bytes: 256 x rank signed coefficients, in -mu/2 .. mu/2: -5 .. 5 in set 1, -4 .. 4 in set 2, -3 .. 3 in
+    /// set 3. No residue is written: who packs or multiplies coefficients first adds the modulus to each negative one, 8192, or 1024 for a
+    /// product modulo 1024.
     gen_secret = saber_gen_secret [set] (seed: u8) => (secret: i8);
     /// The product of two polynomials below the modulus, 1024 or 8192, where X to the 256 is -1.
     poly_mul = saber_poly_mul [modulus] (a: u16, b: u16) => (product: u16);
@@ -144,9 +145,9 @@ calls! {
     poly_mul_karatsuba = saber_poly_mul_karatsuba [modulus] (a: u16, b: u16) => (product: u16);
     /// Rounds coefficients below 8192 to coefficients below 1024.
     round = saber_round [] (x: u16) => (rounded: u16);
-    /// Reconciliation data of coefficients below 1024.
+    /// Reconciliation data, below 1024 / g, of coefficients w below 1024.
     recon_data = saber_recon_data [set] (w: u16) => (data: u16);
-    /// Recovers message bits, a 0 or 1 a coefficient, from v below 1024 and reconciliation data.
+    /// Recovers message bits, a 0 or 1 a coefficient, from v below 1024 and data below 1024 / g.
     recover = saber_recover [set] (v: u16, data: u16) => (bits: u16);
     /// Packs 256 coefficients of `width` bits into 32 x width bytes, least significant bit first.
     pack = saber_pack [width] (coefficients: u16) => (bytes: u8);
@@ -205,9 +206,10 @@ pub struct Entry {
     pub set: u32,
 }
 
-/// Writes the record of an entry: a byte with a bit map, then door (2 bytes up to 65535, 4 above), time (8 bytes), set (1 byte) and
-/// ciphertext, low bytes first. A missing door or time takes no bytes, so that a record has 2 bytes, 2 or 4 more with a door, 8 more with a
-/// time, and the ciphertext. Set 0 is stored as the set that it means. Writing and [`read_record`] undo each other.
+/// Writes the record of an entry: a byte with a bit map and then the fields whose bit stands, low bytes first: door (bit 0, 2 bytes, up to
+/// 65535; or bit 4, 4 bytes, above), time (bit 1, 8 bytes, any value), set (bit 2, 1 byte), ciphertext (bit 3, its set's length). So it
+/// has 2 bytes, 2 more with a door up to 65535 or 4 more with one above, 8 more with a time, and the ciphertext. Set 0 is stored as the set
+/// that it means. Writing and [`read_record`] undo each other.
 pub fn write_record(door: Option<u32>, time: Option<u64>, set: u32, ciphertext: &[u8], record: &mut [u8]) -> Result<(), Refusal> {
     // SAFETY: as for the calls above.
     result(unsafe {
