@@ -316,14 +316,14 @@ def listed_entries(texts):
     for by, name in re.findall(r"\bBY_(LENGTHS|CONTENT), (\w+),", texts[SECRETS]):
         found.setdefault(f"{name} in {SECRETS}", {by}).add(by)
     for name, words in re.findall(r'Refusal::(\w+) => "([^"]*)"', texts[PACKAGE]):
-        found[f"words of {name}"] = words
+        found[f"the package's words for {name}"] = words
     return found
 
 
 def expected_lists(texts):
     """By the oracle's table; the words of each refusal are the header's."""
     words = dict(re.findall(r"^    SABER_(\w+) = \d+,? +// (.*)", texts[HEADER], re.MULTILINE))
-    found = {f"words of {refusal_name(name)}": words.get(name.upper()) for name in refusals()}
+    found = {f"the package's words for {refusal_name(name)}": words.get(name.upper()) for name in refusals()}
     for name, call in CALLS.items():
         if call.outputs:
             found[f"refusals of saber_{name}"] = [str(number) for number in call.questions]
@@ -429,7 +429,7 @@ def main():
     codes = {place: code(texts[place]) for place in (LIBRARY, HEADER, PACKAGE)}
     found = differences(codes) + listed_differences(texts)
     if found:
-        sys.exit("\n".join(found))
+        sys.exit("\n".join(dict.fromkeys(found)))
     count = sum(tried(codes, place, changes(place, text), differences) for place, text in codes.items())
     for place in (HEADER, PACKAGE):
         count += tried(texts, place, changed_numbers(texts[place]), listed_differences)

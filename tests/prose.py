@@ -2,7 +2,8 @@
 
 Prose is what stands in comments and strings. `sentences` has those with a number that a program relies on, each number
 had from the oracle. A text lacks none of them, and no number of its prose stands outside of one. `changed_numbers`
-gives a text with one such number changed, for every one of them.
+gives a text with one such number changed, for every one of them. tests/interface.py runs all of this, and
+tests/readme.py does the same for README.md.
 """
 
 import bisect
@@ -236,30 +237,41 @@ def without_stack(text):
     return re.sub(STACK, lambda match: "\n" * match[0].count("\n"), text, flags=re.MULTILINE | re.IGNORECASE)
 
 
-def prose(text):
+def plain(text):
     """As one line, without markup and capitals."""
-    parts = (match["comment"] or match["string"] or "" for match in re.finditer(PROSE, without_stack(text)))
-    return re.sub(r"\[`|`\]|[`*]", "", " ".join(" ".join(parts).split())).lower()
+    return re.sub(r"\[`|`\]|[`*]", "", " ".join(text.split())).lower()
+
+
+def differences(place, text, sentences):
+    """A line each: sentences that a text lacks, or else numbers that stand outside of all of them."""
+    text, spans, lacking = plain(text), [], []
+    for sentence in map(plain, sentences):
+        found = [match.span() for match in re.finditer(re.escape(sentence), text)]
+        spans += found
+        if not found:
+            lacking.append(f"{place}: lacks `{sentence}`")
+    return lacking or [
+        f"{place}: a number that the oracle does not give: `{text[max(number.start() - 50, 0) : number.end() + 50]}`"
+        for number in re.finditer(NUMBER, text)
+        if not any(start <= number.start() and number.end() <= end for start, end in spans)
+    ]
 
 
 def prose_differences(place, text):
-    """A line each: sentences that the text lacks, and numbers outside of all of them."""
-    text, spans = prose(text), []
-    for sentence in sentences()[place]:
-        found = [match.span() for match in re.finditer(re.escape(sentence.lower()), text)]
-        if not found:
-            yield f"{place}: lacks `{sentence}`"
-        spans += found
-    for number in re.finditer(NUMBER, text):
-        start, end = number.span()
-        if not any(first <= start and end <= last for first, last in spans):
-            yield f"{place}: a number that the oracle does not give: `{text[max(start - 50, 0) : end + 50]}`"
+    """Those of the header or the package."""
+    parts = (match["comment"] or match["string"] or "" for match in re.finditer(PROSE, without_stack(text)))
+    return differences(place, " ".join(parts), sentences()[place])
+
+
+def changed_at(text, number):
+    """The text with this number one more, and one less where it is not 0."""
+    for other in {int(number[0]) + 1, abs(int(number[0]) - 1)}:
+        yield f"{text[: number.start()]}{other}{text[number.end() :]}"
 
 
 def changed_numbers(text):
-    """The text with one number of its prose one more or less, every way."""
+    """The text with one number of its prose changed, every way."""
     text = without_stack(text)
     for part in re.finditer(PROSE, text):
         for number in re.compile(NUMBER).finditer(text, *part.span()):
-            for other in {int(number[0]) + 1, abs(int(number[0]) - 1)}:
-                yield f"{text[: number.start()]}{other}{text[number.end() :]}"
+            yield from changed_at(text, number)
