@@ -1,5 +1,6 @@
 #!/bin/sh
-# The library as its users meet it, a test a line. Needs what `rt check` built, and builds the archive.
+# The library as its users meet it, a test a line. Needs what `rt check` built, and builds the archive. tests/README.md
+# lists the tests: one that is run and not listed there, or listed and not run, fails at the end.
 set -eu
 cd "$(dirname "$0")/.."
 . tests/tools.sh
@@ -13,11 +14,13 @@ trap 'rm -rf "$work"' EXIT
 export PYTHONDONTWRITEBYTECODE=1 CARGO_TARGET_DIR=target/rust
 passed=0
 skipped=0
+needed= # the tool without which a test is skipped
 
 # test_of TITLE COMMAND..: runs the command and says how many seconds it took. The first that fails ends the script.
 test_of() {
     title=$1
     shift
+    echo "$title | $needed" >>"$work/tried"
     echo "-- $title"
     started=$(date +%s)
     "$@" || {
@@ -30,14 +33,16 @@ test_of() {
 
 # test_with TOOL TITLE COMMAND..: the same, where there is such a tool.
 test_with() {
-    tool=$1
+    needed=$1
     shift
-    if has "$tool"; then
+    if has "$needed"; then
         test_of "$@"
     else
-        echo "skipped: $1 (no $tool)"
+        echo "$1 | $needed" >>"$work/tried"
+        echo "skipped: $1 (no $needed)"
         skipped=$((skipped + 1))
     fi
+    needed=
 }
 
 # c99 OUTPUT SOURCE..: builds a program with the archive.
@@ -69,5 +74,25 @@ test_of 'random calls against the plain implementation' "$work/agree" 2000
 test_of 'sabercall under hostile input' python3 tests/hostile.py
 test_of 'sabercall on the known answers' python3 tests/kat.py
 test_of 'margins against the oracle' python3 tests/margins.py
+test_of 'README: its shell lines, C program, table and numbers' python3 tests/readme.py
+test_with cargo 'README: its Rust example' python3 tests/readme.py rust
 test_with cargo 'the Rust package' cargo test --offline --quiet --manifest-path bindings/rust/Cargo.toml --test calls
+test_with cargo 'the archive where SABER_LIB_DIR says' python3 tests/lib_dir.py
+
+# The tests that were run or skipped against the list, each as `TITLE | TOOL`.
+awk -F ' *[|] *' 'rows && /^[|]/ { print $2 " | " $4 } /^[|]---/ { rows = 1 }' tests/README.md | sort >"$work/listed"
+sort "$work/tried" | diff "$work/listed" - >"$work/differences" || {
+    sed -n 's/^< /listed in tests\/README.md and not run: /p; s/^> /run and not listed in tests\/README.md: /p' \
+        "$work/differences"
+    exit 1
+}
+# Every script and program of this folder is run above or in .ci/run, or another one uses it.
+for file in tests/*.py tests/*.c; do
+    name=${file#tests/}
+    name=${name%.*}
+    grep -q "$file" .ci/run tests/run.sh || grep -Eq "^(from|import) $name\b|linked\(\"$name\"" tests/*.py || {
+        echo "no test runs $file"
+        exit 1
+    }
+done
 echo "tests passed: $passed, skipped: $skipped"
