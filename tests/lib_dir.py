@@ -2,10 +2,10 @@
 
     python3 tests/lib_dir.py
 
-A copy of the package in a folder of its own, with no archive near it: with none named, and with a folder named that has
-none, the build fails and says which file is missing; with the archive's folder named, the example runs. Then an archive
-is where the repository has it: it is found if none is named, and not taken for one that is missing in a folder that is
-named. It exits with 1 at the first of these that is not so.
+A copy of the package, in a folder of its own. With no archive where the repository has it and none named, the build
+fails and says which file is missing. With the archive's folder named, the example runs. Then there is an archive where
+the repository has it: with a folder named that has none the build fails all the same, and with none named the example
+runs. It exits with 1 at the first of these that is not so.
 """
 
 import os
@@ -45,22 +45,23 @@ def fails(what, package, missing, named=None):
 
 def main():
     with tempfile.TemporaryDirectory() as name:
-        package, empty, other, own = (Path(name) / part for part in ("a/b/package", "empty", "other", "a/target/staticlib"))
+        folder = Path(name)
+        package, own = folder / "copy/bindings/rust", folder / "copy/target/staticlib"
+        named, empty = folder / "named", folder / "empty"
         shutil.copytree(ROOT / "bindings/rust", package, ignore=shutil.ignore_patterns("target"))
+        named.mkdir()
         empty.mkdir()
-        other.mkdir()
-        shutil.copy(ARCHIVE, other)
+        shutil.copy(ARCHIVE, named)
         try:
             fails("no archive and none named", package, package / "../../target/staticlib")
-            fails("a folder named that has no archive", package, empty, empty)
-            runs("the archive's folder named", package, other)
+            runs("the archive's folder named", package, named)
             own.mkdir(parents=True)
-            shutil.move(other / ARCHIVE.name, own)
-            fails("a folder named whose archive is gone, beside the repository's", package, other, other)
+            shutil.copy(ARCHIVE, own)
+            fails("a folder named that has no archive", package, empty, empty)
             runs("the repository's archive and none named", package)
         except Wrong as what:
             sys.exit(f"SABER_LIB_DIR: {what}")
-    print("SABER_LIB_DIR: 2 builds that find the archive, 3 that say that it is missing")
+    print("SABER_LIB_DIR: 2 builds that find the archive, 2 that say that it is missing")
 
 
 if __name__ == "__main__":

@@ -137,8 +137,8 @@ def record_sentences():
         f"door (bit {short}, {found.short} bytes, up to {last}; or bit {wide}, {found.wide} bytes, above), time"
         f" (bit {time.bit}, {found.time} bytes, any value), set (bit {number.bit}, {number.length} byte), ciphertext"
         f" (bit {ciphertext.bit}, its set's length)",
-        f"So it has {found.bare} bytes, {found.short} more with a door up to {last} or {found.wide} more with one above,"
-        f" {found.time} more with a time, and the ciphertext",
+        f"So it has {found.bare} bytes, {found.short} more with a door up to {last} or {found.wide} more with one"
+        f" above, {found.time} more with a time, and the ciphertext",
         f"less {found.bare}, less {found.short} more if record[0] has bit {short}, less {found.wide} more if it has bit"
         f" {wide}, less {found.time} more if it has bit {time.bit}",
         f"the record's door of {found.wide} bytes is {last} or less",
@@ -155,7 +155,8 @@ def shared_sentences():
     # In this set a byte makes a coefficient of a secret.
     whole = only("the set with mu = 8", [number for number, set in sets.items() if set.mu == 8])
     modulus = only("the modulus besides the residue", {p, q} - {residue()})
-    matrix, rounding, bits = CALLS["gen_matrix"].outputs[0], CALLS["round"], CALLS["recover"].outputs[0]
+    matrix, bits = CALLS["gen_matrix"].outputs[0], CALLS["recover"].outputs[0]
+    [exact], [rounded] = CALLS["round"].inputs, CALLS["round"].outputs
     return [
         f"the set number is not {listed([zero, *sets])}, or a record's set byte not {listed(sets)}",
         f"the packing width is not {listed(saber.WIDTHS)}, or the modulus not {listed(saber.MODULI)}",
@@ -170,7 +171,8 @@ def shared_sentences():
         f"Decapsulation: the shared secret of {secret} bytes",
         f"it gives the rejected secret, {rejected_secret()}",
         f"Encrypts a message of {message} bytes with a secret seed of {seed} bytes",
-        f"Decrypts to a message of {message} bytes with the plain secret, the first {plain} x rank bytes of a secret key",
+        f"Decrypts to a message of {message} bytes with the plain secret,"
+        f" the first {plain} x rank bytes of a secret key",
         *record_sentences(),
         f"Set {zero} is stored as the set that it means",
         f"The matrix of a seed of {seed} bytes: {n} x rank x rank coefficients below {matrix.role.bound}, row by row",
@@ -178,7 +180,7 @@ def shared_sentences():
         + ", ".join(f"-{set.mu // 2} .. {set.mu // 2} in set {number}" for number, set in sets.items()),
         f"adds the modulus to each negative one, {residue()}, or {modulus} for a product modulo {modulus}",
         f"two polynomials below the modulus, {listed(saber.MODULI)}, where X to the {n} is -1",
-        f"Rounds coefficients below {rounding.inputs[0].role.bound} to coefficients below {rounding.outputs[0].role.bound}",
+        f"Rounds coefficients below {exact.role.bound} to coefficients below {rounded.role.bound}",
         f"Reconciliation data, below {p} / g, of coefficients w below {p}",
         f"a {listed(range(bits.role.bound))} a coefficient, from v below {p} and data below {p} / g",
         f"Packs {n} coefficients of width bits into {packed} x width bytes",

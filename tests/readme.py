@@ -3,7 +3,7 @@
     python3 tests/readme.py          all but the Rust example
     python3 tests/readme.py rust     the Rust example
 
-The shell block of the first round trip is run with its calls recorded: the oracle gives each of them the same answer, 0,
+The shell block of the first round trip is run with its calls recorded: each is answered 0 and as the oracle answers it,
 and the secrets are equal. A line that starts with `$ ` is run, and what it prints is what README has below it and what
 the oracle prints. The C program is built and run by README's own line, and compiles as C99 without a warning. The table
 of the calls, the errors and the other numbers are the oracle's. Then README is changed in a number, in an order or in a
@@ -67,7 +67,7 @@ def run(what, command, folder, **others):
 
 
 def same_secrets(what, printed, count):
-    """So many pairs of lines, `sent` and `received`, each with one secret."""
+    """What is printed has this count of pairs of lines, `sent` and `received`, each pair with one secret."""
     lines = re.findall(r"^ *(sent|received) +(\S*)$", printed, re.MULTILINE)
     if [name for name, _ in lines] != ["sent", "received"] * count:
         raise Wrong(f"{what} prints the lines {[name for name, _ in lines]}")
@@ -105,7 +105,7 @@ def changed_round_trips(text):
     block = re.search(rf"(?s)## {FIRST}\n.*?\n\n    (.*?)\n\n", text)
     for found in number.finditer(text, *block.span(1)):
         yield from changed_at(text, found)
-    for call in re.compile(r"(?<=call )(?:keygen|encaps|decaps) .*(?=\)$)", re.MULTILINE).finditer(text, *block.span(1)):
+    for call in re.compile(r"(?m)(?<=call )(?:keygen|encaps|decaps) .*(?=\)$)").finditer(text, *block.span(1)):
         words = re.findall(r"\$\((?:[^()]|\([^()]*\))*\)|\S+", call[0])
         for i in range(2, len(words)):
             if words[i] != words[i - 1]:
@@ -224,14 +224,15 @@ def sentences():
         f"({times} M minus the largest size of a coefficient",
         f"After {most} groups it reads no further",
         f"answered {saber.margin_report(b'').decode().strip()}",
-        f"The margins of {most} groups of each set, with the bound at 0; group i of set n is {group} bytes of SHAKE-128",
+        f"The margins of {most} groups of each set, with the bound at 0",
+        f"group i of set n is {group} bytes of SHAKE-128",
         f"![The margins of {most} groups of each set: all of them lie far above 0]",
         # C
         f"when doors had {8 * Records().short} bits",
     ]
 
 
-def told(text):
+def statements(text):
     rows = re.findall(r"^\| `.*", section(text, FIRST), re.MULTILINE)
     for found, expected in zip([*rows, "none"], [*map(row, CALLS.values()), "none"]):
         if found != expected:
@@ -245,7 +246,7 @@ def told(text):
         raise Wrong(line)
 
 
-def changed_words(text):
+def changed_statements(text):
     """Numbers in the prose of these sections, neighbours in the table, an error's name."""
     for title in (CLAIM, FIRST, NEAR, LINKED):
         start = text.index(section(text, title))
@@ -267,7 +268,7 @@ CHECKS = (
     (first_round_trip, changed_round_trips),
     (samples, changed_samples),
     (c_program, changed_programs),
-    (told, changed_words),
+    (statements, changed_statements),
 )
 
 
@@ -306,10 +307,12 @@ def main():
                     count += 1
                     continue
                 pairs = zip(changed.splitlines(), text.splitlines())
-                raise Wrong(f"a change is not found: {next((new for new, old in pairs if new != old), 'none was made')}")
+                line = next((new for new, old in pairs if new != old), "none was made")
+                raise Wrong(f"a change is not found: {line}")
     except Wrong as what:
         sys.exit(f"README.md: {what}")
-    print(f"README.md: shell, sample, C program, {len(CALLS)} calls and {len(sentences())} sentences, {count} changes found")
+    what = f"shell lines, sample and C program run, {len(CALLS)} calls and {len(sentences())} sentences agree"
+    print(f"README.md: {what}, {count} changes are found")
 
 
 if __name__ == "__main__":
