@@ -4,7 +4,8 @@
 
 Every call takes its turn, with arguments that are sound, damaged, of any content, of odd lengths or all of
 these at once. Guard bytes stand around every buffer and every number lent. The first difference ends the run
-with 1 and a line for `sabercall`. The seed that is printed repeats a run.
+with 1 and a line for `sabercall`. So does a planted difference, or a write where no call may write, that is not
+found. The seed that is printed repeats a run.
 """
 
 import itertools
@@ -18,7 +19,9 @@ from drawing import any_content, options, sound_arguments
 import notation
 import saber
 from calls import CALLS, ELEMENTS
-from library import Breach, Library
+from library import Breach, Library, forbidden, straying
+from planted import Difference, must_find, turned
+from samples import laid_record
 
 EDGES = (0, 1, 2, 3, 4, 5, 7, 12, 14, 16, 32, 255, 256, 1000, 1023, 1025, 8191, 8193, 65536, 1 << 31, (1 << 32) - 1)
 WAYS = ("sound", "damaged", "any content", "odd lengths", "odd number", "mixed")
@@ -83,6 +86,66 @@ def spoilt(draw, way, call, arguments):
 # The run
 
 
+def compared(run, draw, call, arguments):
+    """What the oracle answers and gives, if `run` does so too."""
+    expected = call.run(*arguments)
+    try:
+        found = run(draw, call, arguments)
+    except Breach as breach:
+        found = str(breach)
+    if found != expected:
+        request = notation.write_request(call.name, *arguments).decode()
+        right = notation.write_answer(call.name, *expected).decode()
+        wrong = found if isinstance(found, str) else notation.write_answer(call.name, *found).decode()
+        raise Difference(f"Request:\n{request}\nexpected: {right}\nfound: {wrong}")
+    return expected
+
+
+def with_one_turned(place, answer, values):
+    """What a call gave, with a bit of one result turned; at place 0 is the answer."""
+    results = [answer, *values]
+    results[place] = turned(results[place])
+    return results[0], results[1:]
+
+
+def find_differences(draw, library, cases):
+    """Plants a difference in each result of each call. Gives how many were found."""
+    count = 0
+    for call, arguments in cases:
+        for place in range(1 + len(call.results)):
+
+            def planted(*given):
+                return with_one_turned(place, *library.run(*given))
+
+            must_find(f"differential, {call.name}, result {place}", compared, planted, draw, call, arguments)
+            count += 1
+    return count
+
+
+def find_strays(draw, library, cases):
+    """Lets each call write where it may not, accepted and refused. Gives how many of these writes were found."""
+    count, blank = 0, bytes(saber.SETS[1].ciphertext)
+    accepted = [(call, arguments) for call, arguments in cases if call.outputs]
+    refused = [(call, [*arguments[:-1], 2 * arguments[-1]]) for call, arguments in accepted]
+    # Records without and with the numbers that may be missing
+    records = [(CALLS["read_record"], [laid_record(number, number, 1, blank), blank]) for number in (None, 1)]
+    for call, arguments in accepted + refused + records:
+        [export] = call.exports
+        for pointer, offset, bit in forbidden(call, arguments):
+            stray = library.replaced(export, straying(library.functions[export], pointer, offset, bit))
+            title = f"differential, {call.name}, a write at {offset} of pointer {pointer}"
+            must_find(title, compared, stray.run, draw, call, arguments)
+            count += 1
+    return count
+
+
+def find_empty_part(draw, library):
+    """Lets the lookup answer with an empty part that does not start at 0."""
+    lookup = CALLS["public_key_of"]
+    elsewhere = library.replaced(lookup.exports[0], lambda *asked: 1)
+    must_find("differential, an empty part at 1", compared, elsewhere.run, draw, lookup, [0, b""])
+
+
 def table(calls, sets, answers):
     """How often each call was made, with which set and with which answer; the lookup answers with no number."""
     numbers = [0, *sorted({question for call in CALLS.values() for question in call.questions})]
@@ -99,33 +162,33 @@ def main():
     given = options("differential", 10000, "calls", archive="target/staticlib/libsaber.a")
     draw = random.Random(given.seed)
     keys = {set: [keys_of(draw, set) for _ in range(8)] for set in saber.SETS.values()}
+
+    def made(set):
+        return draw.choice(keys[set])
+
     calls, sets, answers, ways = Counter(), Counter(), Counter(), Counter()
     with tempfile.TemporaryDirectory() as folder:
         library = Library(given.archive, folder)
         for i, (name, call) in zip(range(given.count), itertools.cycle(CALLS.items())):
             numbered = any(parameter.role.kind == "number" for parameter in call.inputs)
             way = draw.choice([way for way in WAYS if way != "odd number" or numbered])
-            sound = sound_arguments(draw, call, made=lambda set: draw.choice(keys[set]))
-            arguments = spoilt(draw, way, call, sound)
-            expected = call.run(*arguments)
+            arguments = spoilt(draw, way, call, sound_arguments(draw, call, made=made))
             try:
-                found = library.run(draw, call, arguments)
-            except Breach as breach:
-                found = str(breach)
-            if found != expected:
-                print(f"difference at call {i}, {way}. Request:")
-                print(notation.write_request(name, *arguments).decode())
-                print("expected:", notation.write_answer(name, *expected).decode())
-                print("found:", found if isinstance(found, str) else notation.write_answer(name, *found).decode())
+                expected = compared(library.run, draw, call, arguments)
+            except Difference as difference:
+                print(f"difference at call {i}, {way}. {difference}")
                 return 1
             calls[name] += 1
             ways[way] += 1
             answers[name, expected[0]] += 1
             known = zip(call.inputs + call.handed, arguments[: len(call.inputs)] + expected[1])
             sets.update((name, number) for parameter, number in known if parameter.name == "set")
+        cases = [(call, sound_arguments(draw, call, made=made)) for call in CALLS.values()]
+        differences, strays = find_differences(draw, library, cases), find_strays(draw, library, cases)
+        find_empty_part(draw, library)
     print(table(calls, sets, answers))
     print("arguments: " + ", ".join(f"{way} {ways[way]}" for way in WAYS))
-    print(f"{given.count} calls, no difference")
+    print(f"{given.count} calls, no difference; {differences} planted differences and {strays} stray writes were found")
     return 0
 
 

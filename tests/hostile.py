@@ -4,7 +4,8 @@
 
 Lines of any bytes, damaged requests, damaged signed lists, lines about and far beyond 65,536 bytes, no newline
 at the end, input that comes in pieces, and input that is empty, closed or cannot be read. COUNT is how many
-inputs of each random kind are tried. The first difference ends the run with 1.
+inputs of each random kind are tried. The first difference ends the run with 1, and so does a planted one that is not
+found.
 """
 
 import itertools
@@ -18,6 +19,7 @@ from drawing import options, sound_arguments
 
 import notation
 from calls import CALLS
+from planted import ALTERATIONS, Difference, must_find
 
 LIMIT = notation.LONGEST
 NEAR = b"0123456789abcdefABCDEFg-,+ #\t\r\0\xff"
@@ -140,10 +142,6 @@ def ends():
 # Runs
 
 
-class Difference(Exception):
-    """A run that is not as the oracle has it; its text is how."""
-
-
 def kind_of(answer):
     """The number of an answer, the whole of an error, or `part` for what the lookup hands back."""
     word = answer.split(b" ")[0]
@@ -153,14 +151,17 @@ def kind_of(answer):
 
 
 class Trial:
-    def __init__(self, program):
-        self.program = str(program.resolve())
+    """Runs of the program. What each gave is altered before it is compared, where a difference is to be planted."""
+
+    def __init__(self, program, alter=lambda *run: run):
+        self.program, self.alter = str(program.resolve()), alter
         self.inputs, self.answers = Counter(), Counter()
         self.lines = self.bytes = 0
 
     def compare(self, kind, given, found, status, errors):
         """Notes a run, or raises the first line at which it differs."""
         expected = notation.answer_lines(given)
+        found, status, errors = self.alter(found, status, errors)
         if status != 0 or errors:
             raise Difference(f"{kind}: status {status}, {errors!r} on standard error; input {given[:200]!r}")
         if found != expected:
@@ -202,6 +203,17 @@ class Trial:
         self.compare("a folder", b"", done.stdout, done.returncode, done.stderr)
 
 
+def find_planted(program, draw):
+    """Plants differences in every way that the program is run. Gives how many were found."""
+    text, count = b"\n".join(sound_requests(draw)), 0
+    for alter in ALTERATIONS:
+        trial = Trial(program, alter)
+        for run in ([trial.whole, "planted", text], [trial.in_pieces, "planted", text, draw], [trial.unreadable]):
+            must_find("hostile", *run)
+            count += 1
+    return count
+
+
 def main():
     given = options("hostile", 200, "inputs of each random kind", program="target/bin/sabercall")
     draw = random.Random(given.seed)
@@ -223,7 +235,9 @@ def main():
         return 1
     print("inputs: " + ", ".join(f"{kind} {count}" for kind, count in trial.inputs.items()))
     print("answers: " + ", ".join(f"{answer} {count}" for answer, count in sorted(trial.answers.items())))
-    print(f"{sum(trial.inputs.values())} inputs, {trial.lines} lines, {trial.bytes} bytes, no difference")
+    planted = find_planted(given.program, draw)
+    made = f"{sum(trial.inputs.values())} inputs, {trial.lines} lines, {trial.bytes} bytes"
+    print(f"{made}, no difference; {planted} planted differences were found")
     return 0
 
 

@@ -4,7 +4,8 @@
     python3 tests/kat.py --write DIR      writes files of that format, made by the oracle
 
 Of each difference it says which reading of documents 01 and 02 it can be laid to: the oracle, with that reading
-reversed, gives the entry's answer. It exits with 1 on a difference. `--sabercall PATH` takes another program than target/bin's.
+reversed, gives the entry's answer. It exits with 1 on a difference, and where it does not find one that it plants in a
+file's last answer. `--sabercall PATH` takes another program than target/bin's.
 """
 
 import argparse
@@ -17,6 +18,7 @@ sys.path.append(str(ROOT / "oracle"))
 
 import notation
 from known_answers import FILES, Unreadable, checks, read, write
+from planted import turned
 from readings import explanations
 
 
@@ -28,6 +30,11 @@ def answers(program, requests):
     if ended.returncode or len(lines) != len(requests):
         sys.exit(f"{program}: {len(lines)} answers to {len(requests)} requests, exit code {ended.returncode}")
     return lines
+
+
+def differing(asked, given):
+    """The calls to which another answer was given."""
+    return [check for check, answer in zip(asked, given, strict=True) if answer != check.expected]
 
 
 def laid_to(check):
@@ -48,10 +55,13 @@ def run(program, path):
     entries = read(path.read_text())
     asked = [check for label, entry in entries for check in checks(label, entry)]
     given = answers(program, [check.request for check in asked])
-    different = [check for check, answer in zip(asked, given) if answer != check.expected]
+    different = differing(asked, given)
     for check in different:
         print(f"{path.name}: {check.label} differs, {in_words(laid_to(check))}", flush=True)
-    print(f"{path.name}: {len(entries)} entries, {len(asked)} calls, {len(different)} differences", flush=True)
+    if asked[-1] not in differing(asked, [*given[:-1], turned(asked[-1].expected)]):
+        sys.exit(f"{path.name}: a planted difference was not found")
+    counts = f"{len(entries)} entries, {len(asked)} calls, {len(different)} differences"
+    print(f"{path.name}: {counts}; the planted one was found", flush=True)
     return len(different)
 
 

@@ -1,5 +1,9 @@
-"""The library through its C interface, for the random tests: calls with guard bytes about all that is lent."""
+"""The library through its C interface, for the random tests: calls with guard bytes about all that is lent.
 
+For a test of these guards, a call can be made to write where it may not.
+"""
+
+import copy
 import ctypes
 import struct
 import subprocess
@@ -95,6 +99,12 @@ class Library:
                 self.functions[export] = library[export]  # each look into the library makes a function anew
                 self.functions[export].restype = ctypes.c_uint8 if call.outputs else ctypes.c_size_t
 
+    def replaced(self, export, function):
+        """The library with another function in place of an exported one."""
+        other = copy.copy(self)
+        other.functions = self.functions | {export: function}
+        return other
+
     def run(self, draw, call, arguments):
         """The answer, and what is handed back with the outputs after the call."""
         if not call.outputs:
@@ -128,3 +138,41 @@ class Library:
         if length == 0 and offset != 0:
             raise Breach("an empty part that does not start at 0")
         return None, [secret_key[offset : offset + length]]
+
+
+# Writes that no call may make
+
+
+def forbidden(call, arguments):
+    """Bits that a call may not change, about and in what it is lent: the place of a pointer, an offset in bytes, a bit."""
+    answer, values = call.run(*arguments)
+    lent = []  # by pointer: the size in bytes, and the lowest bit of a byte that may not change, if one may not
+
+    def add_slices(parameters, values, bit):
+        slices = [(p.role.kind, value) for p, value in zip(parameters, values) if p.role.kind in ELEMENTS]
+        lent.extend((len(value) * struct.calcsize(f"={ELEMENTS[kind]}"), bit) for kind, value in slices)
+
+    add_slices(call.inputs, arguments, 1)
+    for parameter, value in zip(call.handed, values):
+        if parameter.role.kind == "optional":
+            lent.append((1, 2 if answer == 0 else 1))  # a flag is 0 or 1
+        lent.append((parameter.role.bits // 8, 1 if value is None else 0))
+    add_slices(call.outputs, arguments[len(call.inputs) :], 0)
+    for pointer, (size, bit) in enumerate(lent):
+        for offset in (-1, size):
+            yield pointer, offset, 1
+        if bit and size:
+            for offset in {0, size - 1}:
+                yield pointer, offset, bit
+
+
+def straying(function, pointer, offset, bit):
+    """The function, which turns besides a bit at an offset from one of the pointers that it is passed."""
+
+    def stray(*passed):
+        answer = function(*passed)
+        pointers = [value.value for value in passed if isinstance(value, ctypes.c_void_p)]
+        ctypes.c_uint8.from_address(pointers[pointer] + offset).value ^= bit
+        return answer
+
+    return stray

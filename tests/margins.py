@@ -5,7 +5,8 @@
 The oracle reckons the figures of COUNT groups of each set that are drawn, on all processors. The program is given them
 one by one, by twos, and to 4,096 and beyond (over and over where COUNT does not suffice), with bytes over; first bytes
 that are refused; input that comes in pieces, that stays open, or that is closed or cannot be read; and files of which
-some is to be left. The first difference ends the run with 1. The seed that is printed repeats a run.
+some is to be left. The first difference ends the run with 1, and so does a planted one that is not found. The seed that
+is printed repeats a run.
 """
 
 import fcntl
@@ -25,6 +26,7 @@ from collections import Counter
 from drawing import options
 
 import saber
+from planted import ALTERATIONS, Difference, must_find
 
 MOST = saber.MOST_GROUPS
 SECONDS = 60
@@ -80,10 +82,6 @@ def cut(given, sizes):
 # Runs
 
 
-class Difference(Exception):
-    """A run that is not as the oracle has it; its text is how."""
-
-
 def held(pipe):
     """How many bytes nobody has read yet."""
     [count] = struct.unpack("i", fcntl.ioctl(pipe, termios.FIONREAD, bytes(4)))
@@ -91,14 +89,17 @@ def held(pipe):
 
 
 class Trial:
-    def __init__(self, program, figures):
-        self.program = str(program.resolve())
+    """Runs of the program. What each gave is altered before it is compared, where a difference is to be planted."""
+
+    def __init__(self, program, figures, alter=lambda *run: run):
+        self.program, self.alter = str(program.resolve()), alter
         self.figures = figures
         self.inputs = Counter()
 
     def compare(self, kind, given, found, status, errors):
         """Notes a run, or raises how it differs."""
         expected = saber.margin_report(given, lambda set, group: self.figures[set, group])
+        found, status, errors = self.alter(found, status, errors)
         if (found, status, errors) != (expected, 0, b""):
             shown = f"{len(given)} bytes, {given[:1].hex()} the first\nexpected: {expected!r}\nfound: {found!r}"
             raise Difference(f"{kind}: {shown}, status {status}, {errors!r} on standard error")
@@ -151,6 +152,19 @@ class Trial:
         self.compare("a folder", b"", done.stdout, done.returncode, done.stderr)
 
 
+def find_planted(program, figures, text):
+    """Plants differences in every way that the program is run on a text. Gives how many were found."""
+    count = 0
+    for alter in ALTERATIONS:
+        trial, kind = Trial(program, figures, alter), "planted"
+        whole, in_pieces = [trial.whole, kind, text], [trial.in_pieces, kind, [text]]
+        for run in (whole, in_pieces, [trial.left, kind, text, len(text)], [trial.unreadable]):
+            must_find("margins", *run)
+            count += 1
+    must_find("margins, bytes that are left", Trial(program, figures).left, "planted", text, len(text) - 1)
+    return count + 1
+
+
 def main():
     given = options("margins", MOST + 1, "groups of each set", program="target/bin/marginreport")
     draw = random.Random(given.seed)
@@ -182,7 +196,8 @@ def main():
         found = [figures[key] for key in figures if key[0] == set]
         margins, wrong = [margin for margin, _ in found], sum(bits for _, bits in found)
         print(f"set {number}: {len(found)} groups, margins {min(margins)} to {max(margins)}, {wrong} bits wrong")
-    print(f"{trial.inputs.total()} inputs, no difference")
+    planted = find_planted(given.program, figures, of_groups(3, groups[3][:2]))
+    print(f"{trial.inputs.total()} inputs, no difference; {planted} planted differences were found")
     return 0
 
 

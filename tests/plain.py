@@ -4,7 +4,7 @@
 
 It has to give keys, ciphertext and shared secret of every entry, and the oracle's rejected secret where one bit of the
 ciphertext is turned: the first bit in a file's first entry, on to the lowest of the last coefficient in its last. It
-exits with 1 on a difference.
+exits with 1 on a difference, and where it does not find those that it plants in a file's last entry.
 """
 
 import ctypes
@@ -18,6 +18,7 @@ sys.path.append(str(ROOT / "oracle"))
 
 import saber
 from known_answers import FILES, SET_OF, drawn, read
+from planted import turned
 from samples import with_bit_turned
 
 
@@ -61,8 +62,12 @@ def main():
                 for name in differences(library, entry, i / (len(entries) - 1)):
                     print(f"{path.name}: {label}: {name} differs")
                     failed += 1
+            planted = entry._replace(sk=turned(entry.sk), ss=turned(entry.ss))
+            if differences(library, planted, 1)[:3] != ["keygen", "encaps", "decaps"]:
+                sys.exit(f"{path.name}: planted differences were not found")
             total += len(entries)
-    print(f"plain implementation: {total} known-answer entries, {4 * total} calls, {failed} differences")
+    counts = f"{total} known-answer entries, {4 * total} calls, {failed} differences"
+    print(f"plain implementation: {counts}; the planted ones were found")
     sys.exit(failed > 0 or total == 0)
 
 

@@ -4,7 +4,8 @@
 
 Each of COUNT records is that of an entry that is drawn, changed in one of the ways below. The entry is written, the
 record is read, and what was read from it is written again, which has to give the same record. The first difference ends
-the run with 1 and a line for `sabercall`. The seed that is printed repeats a run.
+the run with 1 and a line for `sabercall`. So does a planted one that is not found. The seed that is printed repeats a
+run.
 """
 
 import random
@@ -19,6 +20,7 @@ import notation
 import saber
 from calls import CALLS
 from library import Breach, Library
+from planted import Difference, must_find, turned
 from samples import laid_record, with_bit_turned
 
 WRITE, READ = CALLS["write_record"], CALLS["read_record"]
@@ -134,7 +136,7 @@ def through_program(program, calls):
     lines = done.stdout.split(b"\n")[:-1]
     if len(lines) != len(calls):
         sys.exit(f"{len(lines)} answers of sabercall to {len(calls)} calls")
-    return [line.decode() for line in lines]
+    return lines
 
 
 def through_c(draw, archive, calls):
@@ -143,9 +145,27 @@ def through_c(draw, archive, calls):
         library = Library(archive, folder)
         for call, arguments in calls:
             try:
-                yield notation.write_answer(call.name, *library.run(draw, call, arguments)).decode()
+                yield notation.write_answer(call.name, *library.run(draw, call, arguments))
             except Breach as breach:
-                yield str(breach)
+                yield str(breach).encode()
+
+
+def compare(side, calls, expected, found):
+    """Raises the first difference."""
+    for (call, arguments), right, wrong in zip(calls, expected, found, strict=True):
+        if right != wrong:
+            request = notation.write_request(call.name, *arguments).decode()
+            shown = f"{request}\nexpected: {right.decode()}\nfound: {wrong.decode()}"
+            raise Difference(f"difference through {side}. Request:\n{shown}")
+
+
+def find_planted(side, calls, expected, found):
+    """Plants a bit and another number in the last accepted answer. Gives how many were found."""
+    last = max(i for i, line in enumerate(expected) if line.startswith(b"0 "))
+    planted = turned(found[last]), turned(found[last][:1]) + found[last][1:]
+    for line in planted:
+        must_find(f"records, {side}", compare, side, calls, expected, [*found[:last], line, *found[last + 1 :]])
+    return len(planted)
 
 
 def main():
@@ -158,22 +178,23 @@ def main():
         found = [*calls_of(draw, way)]
         calls += found
         answers[way].update(call.run(*arguments)[0] for call, arguments in found if call is READ)
-    expected = [notation.write_answer(call.name, *call.run(*arguments)).decode() for call, arguments in calls]
+    expected = [notation.write_answer(call.name, *call.run(*arguments)) for call, arguments in calls]
+    planted = 0
     for side, found in (
         ("sabercall", through_program(given.program, calls)),
-        ("C", through_c(draw, given.archive, calls)),
+        ("C", [*through_c(draw, given.archive, calls)]),
     ):
-        for (call, arguments), right, wrong in zip(calls, expected, found):
-            if right != wrong:
-                print(f"difference through {side}. Request:")
-                print(notation.write_request(call.name, *arguments).decode())
-                print(f"expected: {right}\nfound: {wrong}")
-                return 1
+        try:
+            compare(side, calls, expected, found)
+        except Difference as difference:
+            print(difference)
+            return 1
+        planted += find_planted(side, calls, expected, found)
     for way, counts in answers.items():
         print(f"{way}: " + ", ".join(f"{count} -> {answer}" for answer, count in sorted(counts.items())))
     total = Counter(call.name for call, _ in calls)
     made = " and ".join(f"{count} of {name}" for name, count in total.items())
-    print(f"{made}, through sabercall and through C, no difference")
+    print(f"{made}, through sabercall and through C, no difference; {planted} planted differences were found")
     return 0
 
 
