@@ -61,7 +61,7 @@ def run(program, path):
     if asked[-1] not in differing(asked, [*given[:-1], turned(asked[-1].expected)]):
         sys.exit(f"{path.name}: a planted difference was not found")
     counts = f"{len(entries)} entries, {len(asked)} calls, {len(different)} differences"
-    print(f"{path.name}: {counts}; the planted one was found", flush=True)
+    print(f"{path.name}: {counts}; one more was planted and found", flush=True)
     return len(different)
 
 

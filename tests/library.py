@@ -144,7 +144,7 @@ class Library:
 
 
 def forbidden(call, arguments):
-    """Bits that a call may not change, about and in what it is lent: the place of a pointer, an offset in bytes, a bit."""
+    """Bits that a call may not change, in and beside what it is lent: which pointer, an offset in bytes, and the bit."""
     answer, values = call.run(*arguments)
     lent = []  # by pointer: the size in bytes, and the lowest bit of a byte that may not change, if one may not
 

@@ -2,7 +2,8 @@
 // at the end of the open room or at its start, or in a closed room. A call that is refused for its set, width, modulus
 // or a count must answer without a fault, and so must a sound call at both edges. Counts in bytes and huge counts are
 // among the wrong ones. Outputs that can be read must stay as they were. A fault is caught and counted as a failure of
-// its call. tests/interface.py holds the list of calls against the oracle's table.
+// its call. A fault, another answer and a changed byte are planted first, and have to be found. tests/interface.py
+// holds the list of calls against the oracle's table.
 #define _DEFAULT_SOURCE
 #include "check.h"
 #include <saber.h>
@@ -349,12 +350,32 @@ static void records(void) {
     end_group("read_record", "refused records");
 }
 
+// Failures that have to be found, and do not count: keygen on memory that cannot be read, a sound one of which another
+// answer is expected, and a byte that is changed in the last room.
+static void planted(void) {
+    const struct call *keygen = &calls[0];
+    struct part parts[PARTS];
+    lend(keygen, parts, CLOSED, RIGHT);
+    expect(keygen->make, SET, parts, SABER_OK);
+    CHECK(group.faults == 1 && group.others == 0);
+    fill(keygen);
+    CHECK(is_filled(keygen));
+    lend(keygen, parts, AT_END, RIGHT);
+    expect(keygen->make, SET, parts, SABER_UNKNOWN_SET);
+    CHECK(group.faults == 1 && group.others == 1);
+    fill(keygen);
+    open_room(PARTS - 1)[ROOM - 1] ^= 1;
+    CHECK(!is_filled(keygen));
+    memset(&group, 0, sizeof group);
+}
+
 int main(void) {
     struct sigaction action;
     memset(&action, 0, sizeof action);
     action.sa_handler = on_fault;
     CHECK(sigaction(SIGSEGV, &action, NULL) == 0 && sigaction(SIGBUS, &action, NULL) == 0);
     make_rooms();
+    planted();
     for (size_t c = 0; c < sizeof calls / sizeof *calls; c++) {
         const struct call *call = &calls[c];
         sound(call);
@@ -367,7 +388,7 @@ int main(void) {
         refused_coefficients(call);
     }
     records();
-    printf("unread: %u calls, %u faults, %u that answer something else or change a buffer\n", all.calls, all.faults,
-           all.others);
+    printf("unread: %u calls, %u faults, %u that answer something else or change a buffer; planted ones are found\n",
+           all.calls, all.faults, all.others);
     return all.faults + all.others > 0;
 }
