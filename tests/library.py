@@ -144,9 +144,9 @@ class Library:
 
 
 def forbidden(call, arguments):
-    """Bits that a call may not change, in and beside what it is lent: which pointer, an offset in bytes, and the bit."""
+    """Bits that a call may not change, in and beside what it is lent: a pointer's place, an offset in bytes, a bit."""
     answer, values = call.run(*arguments)
-    lent = []  # by pointer: the size in bytes, and the lowest bit of a byte that may not change, if one may not
+    lent = []  # for each pointer how many bytes it is to, and a bit of them that may not change; 0 if all may
 
     def add_slices(parameters, values, bit):
         slices = [(p.role.kind, value) for p, value in zip(parameters, values) if p.role.kind in ELEMENTS]

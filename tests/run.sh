@@ -39,7 +39,7 @@ test_with() {
         test_of "$@"
     else
         echo "$1 | $needed" >>"$work/tried"
-        echo "skipped: $1 (no $needed)"
+        echo "skipped: $1 ($(why_not "$needed"))"
         skipped=$((skipped + 1))
     fi
     needed=
