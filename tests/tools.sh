@@ -28,7 +28,7 @@ source_of() {
     esac
 }
 
-# why_not TOOL: why a tool cannot be used; nothing where it can. Its version is the second word that it prints of itself.
+# why_not TOOL: why a tool cannot be used; nothing where it can. A version is the second word that a tool prints of it.
 # cargo runs rustc.
 why_not() {
     if ! command -v "$1" >/dev/null 2>&1; then
