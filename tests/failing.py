@@ -26,13 +26,10 @@ from drawing import ROOT, sound_arguments
 import notation
 import saber
 from calls import CALLS
+from planted import ALTERATIONS, Difference, must_find
 
 SECONDS = 60
 LIMIT = 4096  # of a file, in bytes
-
-
-class Difference(Exception):
-    """A run that is not as it should be; its text is how."""
 
 
 def requests():
@@ -73,16 +70,16 @@ class Trial:
         subprocess.run(["cc", *flags, "-o", self.library, ROOT / "tests/failing.c"], check=True)
 
     def compare(self, kind, program, found, expected):
-        """Notes a run, or raises how it differs: in what it wrote, what it said, or its status."""
+        """Notes a run, or raises how it differs: in what it wrote, its exit status, or what it said."""
         if found != expected:
             raise Difference(f"{kind}, {program}:\nexpected: {expected}\nfound:    {found}")
         self.runs[kind] += 1
 
     def run(self, program, given, **options):
-        """What a program wrote, what it said, and its status."""
+        """What a program wrote, its exit status, and what it said on standard error."""
         options = dict(input=given, stdout=subprocess.PIPE, stderr=subprocess.PIPE, timeout=SECONDS) | options
         done = subprocess.run([ROOT / "target" / "bin" / program], **options)
-        return done.stdout, done.stderr, done.returncode
+        return done.stdout, done.returncode, done.stderr
 
     def preloaded(self, program, given, **settings):
         names = {name: str(value) for name, value in settings.items()}
@@ -91,11 +88,11 @@ class Trial:
     def full(self, program, given):
         with open("/dev/full", "wb") as output:
             found = self.run(program, given, stdout=output)
-        self.compare("a full device", program, found, (None, said(program, "output", errno.ENOSPC), 0))
+        self.compare("a full device", program, found, (None, 0, said(program, "output", errno.ENOSPC)))
 
     def closed(self, program, given):
         found = self.run(program, given, stdout=None, preexec_fn=lambda: os.close(1))
-        self.compare("a closed output", program, found, (None, said(program, "output", errno.EBADF), 0))
+        self.compare("a closed output", program, found, (None, 0, said(program, "output", errno.EBADF)))
 
     def limited(self, program, given, expected, limit):
         """To a file of limited size: the system ends the program, or tells it, where it ignores the signal."""
@@ -103,23 +100,23 @@ class Trial:
         def lower():
             resource.setrlimit(resource.RLIMIT_FSIZE, (limit, limit))
 
-        for restored, text, status in (
-            (True, b"", -signal.SIGXFSZ),
-            (False, said(program, "output", errno.EFBIG), 0),  # Python ignores that signal, and so do its children
+        for restored, *right in (
+            (True, -signal.SIGXFSZ, b""),
+            (False, 0, said(program, "output", errno.EFBIG)),  # Python ignores that signal, and so do its children
         ):
             with open(self.file, "wb") as output:
                 _, *rest = self.run(program, given, stdout=output, preexec_fn=lower, restore_signals=restored)
             found = (self.file.read_bytes(), *rest)
-            self.compare("a limited file", program, found, (expected[:limit], text, status))
+            self.compare("a limited file", program, found, (expected[:limit], *right))
 
     def unread(self, program, given):
         """To a pipe that nobody reads: the system ends the program, or tells it, where it ignores the signal."""
-        for restored, text, status in ((True, b"", -signal.SIGPIPE), (False, said(program, "output", errno.EPIPE), 0)):
+        for restored, *right in ((True, -signal.SIGPIPE, b""), (False, 0, said(program, "output", errno.EPIPE))):
             reader, writer = os.pipe()
             os.close(reader)
             found = self.run(program, given, stdout=writer, restore_signals=restored)
             os.close(writer)
-            self.compare("a pipe that nobody reads", program, found, (None, text, status))
+            self.compare("a pipe that nobody reads", program, found, (None, *right))
 
     def slow(self, program, given, expected):
         """To a non-blocking pipe with room for some bytes, which is read when the program has ended."""
@@ -133,9 +130,9 @@ class Trial:
             with open(reader, "rb") as pipe:
                 written = pipe.read()[len(held) :]
             if len(written) == len(expected):
-                self.compare("a slow reader", program, (written, *rest), (expected, b"", 0))
+                self.compare("a slow reader", program, (written, *rest), (expected, 0, b""))
             else:
-                right = (expected[: len(written)], said(program, "output", errno.EAGAIN), 0)
+                right = (expected[: len(written)], 0, said(program, "output", errno.EAGAIN))
                 self.compare("a slow reader", program, (written, *rest), right)
 
     def failing_writes(self, program, given, expected):
@@ -145,9 +142,9 @@ class Trial:
             found = self.preloaded(program, given, WRITE_FAILS=call, ERROR=errno.ENOSPC)
             count = len(found[0])
             if count == len(expected):
-                self.compare("each write", program, found, (expected, b"", 0))
+                self.compare("each write", program, found, (expected, 0, b""))
                 return
-            right = (expected[:count], said(program, "output", errno.ENOSPC), 0)
+            right = (expected[:count], 0, said(program, "output", errno.ENOSPC))
             self.compare("each write", program, found, right)
             if count <= before:
                 raise Difference(f"{program}: {count} bytes before write {call}, {before} before the last one")
@@ -157,16 +154,16 @@ class Trial:
     def interrupted(self, program, given, expected):
         for most in (0, 1, 7):
             found = self.preloaded(program, given, INTERRUPTED=1, MOST=most)
-            self.compare("interrupted calls", program, found, (expected, b"", 0))
+            self.compare("interrupted calls", program, found, (expected, 0, b""))
 
     def unreadable(self, program):
         """Input that is closed, and input that opens and cannot be read."""
         closed = self.run(program, None, stdin=None, preexec_fn=lambda: os.close(0))
-        self.compare("a closed input", program, closed, (b"", said(program, "input", errno.EBADF), 0))
+        self.compare("a closed input", program, closed, (b"", 0, said(program, "input", errno.EBADF)))
         folder = os.open("/", os.O_RDONLY)
         found = self.run(program, None, stdin=folder)
         os.close(folder)
-        self.compare("a folder as input", program, found, (b"", said(program, "input", errno.EISDIR), 0))
+        self.compare("a folder as input", program, found, (b"", 0, said(program, "input", errno.EISDIR)))
 
     def failing_reads(self, program, given):
         """The k-th read of few bytes fails; and a non-blocking pipe holds some bytes and no end."""
@@ -185,27 +182,25 @@ class Trial:
 
     def half(self, program, given, error):
         """What is right where the input fails behind these bytes: whole lines are answered, and there is no report."""
-        return whole_answers(given) if program == "sabercall" else b"", said(program, "input", error), 0
+        return whole_answers(given) if program == "sabercall" else b"", 0, said(program, "input", error)
 
 
-def planted(trial):
-    """The comparison has to find a byte too many, another text and another status."""
-    right = (b"0\n", b"", 0)
-    for wrong in ((b"0\n\n", b"", 0), (b"0\n", b"?", 0), (b"0\n", b"", 1)):
-        try:
-            trial.compare("planted", "none", wrong, right)
-        except Difference:
-            continue
-        raise Difference(f"the comparison does not find {wrong}")
+def find_planted(trial):
+    """Plants differences in runs in which nothing fails. Gives how many were found."""
+    for program, (given, expected) in PROGRAMS.items():
+        found = trial.run(program, given)
+        for alter in ALTERATIONS:
+            must_find("failing", trial.compare, "planted", program, alter(*found), (expected, 0, b""))
+    return len(PROGRAMS) * len(ALTERATIONS)
 
 
 def main():
     with tempfile.TemporaryDirectory() as folder:
         trial = Trial(folder)
         try:
-            planted(trial)
+            planted = find_planted(trial)
             for program, (given, expected) in PROGRAMS.items():
-                trial.compare("nothing fails", program, trial.run(program, given), (expected, b"", 0))
+                trial.compare("nothing fails", program, trial.run(program, given), (expected, 0, b""))
                 trial.full(program, given)
                 trial.closed(program, given)
                 trial.limited(program, given, expected, min(LIMIT, len(expected) // 2))
@@ -220,7 +215,7 @@ def main():
             print(f"difference, {difference}")
             return 1
     print("runs: " + ", ".join(f"{kind} {count}" for kind, count in trial.runs.items()))
-    print(f"failing: {trial.runs.total()} runs, no difference, planted ones found")
+    print(f"failing: {trial.runs.total()} runs, no difference; {planted} planted differences were found")
     return 0
 
 

@@ -2,14 +2,13 @@
 
     python3 tests/hostile.py [--seed N] [--count N] [--program FILE]
 
-Lines of any bytes, damaged requests, damaged signed lists, lines about and far beyond 65,536 bytes, no newline
-at the end, input that comes in pieces, and input that is empty, closed or cannot be read. COUNT is how many
-inputs of each random kind are tried. The first difference ends the run with 1, and so does a planted one that is not
-found.
+Lines of any bytes, damaged requests, damaged signed lists, lines about and far beyond 65,536 bytes, carriage returns
+before newlines and elsewhere, no newline at the end, input that comes in pieces, and input that is empty. COUNT is how
+many inputs of each random kind are tried. The first difference ends the run with 1, and so does a planted one that is
+not found.
 """
 
 import itertools
-import os
 import random
 import subprocess
 import sys
@@ -65,10 +64,11 @@ def damaged(draw, line):
 
 
 def damaged_requests(draw):
-    """Requests of which every second one is damaged; the last may lack its newline."""
+    """Requests of which every second one is damaged; the last may lack its end."""
     lines = [damaged(draw, line) if draw.random() < 0.5 else line for line in sound_requests(draw)]
     draw.shuffle(lines)
-    return b"\n".join(lines) + b"\n" * draw.randrange(2)
+    end = draw.choice((b"\n", b"\r\n"))
+    return end.join(lines) + end * draw.randrange(2)
 
 
 def signed_word(draw):
@@ -126,7 +126,8 @@ def long_lines():
         ):
             assert len(line) == length
             yield line
-            yield line + b"\n" + sound + b"\n"
+            for end in (b"\n", b"\r\n", b"\r\r\n"):
+                yield line + end + sound + end
 
 
 def ends():
@@ -191,24 +192,13 @@ class Trial:
             found, errors = process.communicate(timeout=SECONDS)
         self.compare(kind, given, found, process.returncode, errors)
 
-    def unreadable(self):
-        """Input that is closed, and input that opens and cannot be read."""
-        closed = subprocess.run(["sh", "-c", 'exec "$0" <&-', self.program], capture_output=True, timeout=SECONDS)
-        self.compare("closed", b"", closed.stdout, closed.returncode, closed.stderr)
-        folder = os.open("/", os.O_RDONLY)
-        try:
-            done = subprocess.run([self.program], stdin=folder, capture_output=True, timeout=SECONDS)
-        finally:
-            os.close(folder)
-        self.compare("a folder", b"", done.stdout, done.returncode, done.stderr)
-
 
 def find_planted(program, draw):
     """Plants differences in every way that the program is run. Gives how many were found."""
     text, count = b"\n".join(sound_requests(draw)), 0
     for alter in ALTERATIONS:
         trial = Trial(program, alter)
-        for run in ([trial.whole, "planted", text], [trial.in_pieces, "planted", text, draw], [trial.unreadable]):
+        for run in ([trial.whole, "planted", text], [trial.in_pieces, "planted", text, draw]):
             must_find("hostile", *run)
             count += 1
     return count
@@ -219,7 +209,6 @@ def main():
     draw = random.Random(given.seed)
     trial = Trial(given.program)
     try:
-        trial.unreadable()
         for text in ends():
             trial.whole("ends", text)
         for text in long_lines():

@@ -4,9 +4,8 @@
 
 The oracle reckons the figures of COUNT groups of each set that are drawn, on all processors. The program is given them
 one by one, by twos, and to 4,096 and beyond (over and over where COUNT does not suffice), with bytes over; first bytes
-that are refused; input that comes in pieces, that stays open, or that is closed or cannot be read; and files of which
-some is to be left. The first difference ends the run with 1, and so does a planted one that is not found. The seed that
-is printed repeats a run.
+that are refused; input that comes in pieces or that stays open; and files of which some is to be left. The first
+difference ends the run with 1, and so does a planted one that is not found. The seed that is printed repeats a run.
 """
 
 import fcntl
@@ -140,17 +139,6 @@ class Trial:
             raise Difference(f"{kind}: {read} bytes of {len(given)} are read, not {count}")
         self.compare(kind, given, done.stdout, done.returncode, done.stderr)
 
-    def unreadable(self):
-        """Input that is closed, and input that opens and cannot be read."""
-        closed = subprocess.run(["sh", "-c", 'exec "$0" <&-', self.program], capture_output=True, timeout=SECONDS)
-        self.compare("closed", b"", closed.stdout, closed.returncode, closed.stderr)
-        folder = os.open("/", os.O_RDONLY)
-        try:
-            done = subprocess.run([self.program], stdin=folder, capture_output=True, timeout=SECONDS)
-        finally:
-            os.close(folder)
-        self.compare("a folder", b"", done.stdout, done.returncode, done.stderr)
-
 
 def find_planted(program, figures, text):
     """Plants differences in every way that the program is run on a text. Gives how many were found."""
@@ -158,7 +146,7 @@ def find_planted(program, figures, text):
     for alter in ALTERATIONS:
         trial, kind = Trial(program, figures, alter), "planted"
         whole, in_pieces = [trial.whole, kind, text], [trial.in_pieces, kind, [text]]
-        for run in (whole, in_pieces, [trial.left, kind, text, len(text)], [trial.unreadable]):
+        for run in (whole, in_pieces, [trial.left, kind, text, len(text)]):
             must_find("margins", *run)
             count += 1
     must_find("margins, bytes that are left", Trial(program, figures).left, "planted", text, len(text) - 1)
@@ -171,7 +159,6 @@ def main():
     groups, figures = reckoned(draw, given.count)
     trial = Trial(given.program, figures)
     try:
-        trial.unreadable()
         for text in refused_inputs(groups[1]):
             trial.whole("refused", text)
         for byte in (0, 4, 255):
