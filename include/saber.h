@@ -15,16 +15,10 @@
 // - AN OUTPUT OVERLAPS NO OTHER BUFFER of its call, so no call works in place; what it would write then is not defined. Inputs may overlap.
 // - SEEDS, z among them, ARE FRESH, UNPREDICTABLE AND USED ONCE: 32 bytes that the system's generator (getrandom, getentropy) gives for
 //   this one call, kept secret and erased after it. The calls below say what goes wrong otherwise.
-// - SECRETS STAY ON THE STACK. No call clears what it leaves below its caller's frame, less than 30 KiB. To clear it, call right after it,
-//   from the same function, one that overwrites as much and is not inlined:
-//
-//       void clear_stack(void) {
-//           volatile uint8_t room[30720];
-//           for (size_t i = 0; i < sizeof room; i++)
-//               room[i] = 0;
-//       }
-//
-//   or run the calls on a stack of your own and erase that.
+// - SECRETS STAY ON THE STACK. No call clears what it leaves below its caller's frame, less than SABER_STACK_BYTES. To clear it, call
+//   saber_clear_stack() right after the call, from the same function, or run the calls on a stack of your own and erase that.
+// - A THREAD THAT MAKES CALLS HAS A STACK OF SABER_THREAD_STACK_BYTES OR MORE, enough for each call, its clearing and what glibc keeps on
+//   the same stack, the thread's descriptor and small thread-local storage.
 // - SET 2 READS A TABLE OF 256 BYTES AT PLACES THAT SECRET BYTES DECIDE, in saber_keygen, saber_encaps, saber_decaps, saber_encrypt and
 //   saber_gen_secret. Who can watch the processor's cache learns something of them. Sets 1 and 3 have no such address.
 #ifndef SABER_H
@@ -81,6 +75,41 @@ enum {
     FIRESABER_PLAIN_SECRET_BYTES = 1664,
     FIRESABER_CIPHERTEXT_BYTES = 1472
 };
+
+// The stack
+
+enum { SABER_STACK_BYTES = 32768, SABER_THREAD_STACK_BYTES = 65536 };
+
+// What overwrites needs a frame of its own where the call had its frame. So it is a function that is called through a volatile pointer:
+// compilers cannot know which one it is, and do not inline it. A volatile write after the call keeps them from leaving the caller's frame
+// first and jumping to the function. gcc, clang and MSVC are told too what to inline and what not.
+#if defined __GNUC__
+#define SABER_INLINED static inline __attribute__((always_inline))
+#define SABER_NOT_INLINED static __attribute__((noinline, unused))
+#elif defined _MSC_VER
+#define SABER_INLINED static __forceinline
+#define SABER_NOT_INLINED static __declspec(noinline)
+#else
+#define SABER_INLINED static inline
+#define SABER_NOT_INLINED static inline
+#endif
+
+// A part of saber_clear_stack, not called otherwise.
+SABER_NOT_INLINED void saber_overwrite_stack(void) {
+    volatile uint64_t room[SABER_STACK_BYTES / 8];
+    for (size_t i = 0; i < sizeof room / sizeof *room; i++)
+        room[i] = 0;
+}
+
+// Overwrites SABER_STACK_BYTES below its caller's frame, and with them what a call left that the same function made just before.
+SABER_INLINED void saber_clear_stack(void) {
+    void (*volatile overwrite)(void) = saber_overwrite_stack;
+    overwrite();
+    overwrite = NULL;
+}
+
+#undef SABER_INLINED
+#undef SABER_NOT_INLINED
 
 // Key encapsulation
 

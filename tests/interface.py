@@ -4,10 +4,11 @@
 
 Constants are held to the oracle's sets, functions and their parameters to crates/saber/src/lib.rt, and those to the
 oracle's calls. Nothing may lack and nothing may be there besides. So are the refusals that the header names, and the
-lists of calls in tests/stack.c, tests/secrets.c and tests/unread.c. What the package says of a refusal is held to the
-header's words, and the numbers in the prose of both to the oracle (prose.py). Then each text is changed in one number,
-sign, type or `const`, in the order of two parameters or by a declaration, and every change has to be found. It exits
-with 1 on a difference.
+lists of calls in tests/all_calls.h, tests/secrets.c and tests/unread.c. What the package says of a refusal is held to
+the header's words, and the numbers in the prose of both to the oracle (prose.py). Of the stack, which the oracle does
+not know, header and package say the same, in whole pages. Then each text is changed in one number, sign, type or
+`const`, in the order of two parameters or by a declaration, and every change has to be found. It exits with 1 on a
+difference.
 
 What is compared are dictionaries. A function has an entry for its result and one for each parameter as C passes it, in
 Rust's words: a slice is a pointer, as `*const u8`, `*mut u16` or `*mut i8`, and a count. A number that may be missing
@@ -27,7 +28,7 @@ from calls import CALLS
 from prose import HEADER, PACKAGE, Unreadable, changed_numbers, lengths, only, prose_differences, refusals
 
 LIBRARY = "crates/saber/src/lib.rt"
-STACK, SECRETS, UNREAD = "tests/stack.c", "tests/secrets.c", "tests/unread.c"
+ALL_CALLS, SECRETS, UNREAD = "tests/all_calls.h", "tests/secrets.c", "tests/unread.c"
 NAMES = {number: name.upper() for number, name in saber.NAMES.items()}
 SIZES = ("public_key", "secret_key", "plain_secret", "ciphertext")  # of a set, in bytes
 ELEMENTS = {"bytes": "[u8]", "list": "[u16]", "signed": "[i8]"}
@@ -86,6 +87,20 @@ def package_constants():
         fields = {"number": number, "rank": set.l, **{size: getattr(set, size) for size in SIZES}}
         found |= {f"{NAMES[number]}.{field}": value for field, value in fields.items()}
     return found
+
+
+STACK_CONSTANTS = {"SABER_STACK_BYTES": "STACK", "SABER_THREAD_STACK_BYTES": None}  # and the package's names
+PAGE = 4096
+
+
+def header_stack(header):
+    """What the header has to say of the stack: what it says, if that is in whole pages."""
+    said = {name: header.get(name, 0) for name in STACK_CONSTANTS}
+    return {name: bytes if bytes and bytes % PAGE == 0 else "whole pages" for name, bytes in said.items()}
+
+
+def package_stack(header):
+    return {name: header[constant] for constant, name in STACK_CONSTANTS.items() if name and constant in header}
 
 
 def typed(parameter, lent):
@@ -163,7 +178,8 @@ def passed_entries(functions):
 
 DECLARATION = re.compile(
     r" ?(?:enum \w* ?\{(?P<constants>[^}]*)\};"
-    r"|(?:static inline )?(?P<result>(?:const )?\w+ \*?)(?P<name>\w+)\((?P<parameters>[^)]*)\)(?:;| \{[^}]*\})) ?"
+    r"|(?:static inline |SABER_\w+ )?(?P<result>(?:const )?\w+ \*?)(?P<name>\w+)\((?P<parameters>[^)]*)\)"
+    r"(?:;| \{[^}]*\})) ?"
 )
 
 
@@ -178,6 +194,10 @@ def from_c(text):
     return (f"{name}: " if name else "") + pointer + type
 
 
+def parameters_of(text):
+    return [] if text == "void" else [from_c(parameter) for parameter in items(text)]
+
+
 def header_entries(text):
     text = re.sub(r"#ifdef __cplusplus.*?#endif", "", text, flags=re.DOTALL)
     text = " ".join(re.sub(r"^#.*", "", text, flags=re.MULTILINE).split())
@@ -188,15 +208,17 @@ def header_entries(text):
             raise Unreadable(text[at : at + 80])
         at = match.end()
         if match["name"]:
-            found |= entries(match["name"], map(from_c, items(match["parameters"])), from_c(match["result"]))
+            found |= entries(match["name"], parameters_of(match["parameters"]), from_c(match["result"]))
         else:
             found |= {name: int(number) for name, number in pairs(match["constants"], " = ")}
     return found
 
 
-def expected_of_header(functions):
-    """A lookup is an inline function besides, which stores the count of what it returns."""
-    found = header_constants() | passed_entries(functions)
+def expected_of_header(functions, header):
+    """A lookup is an inline function besides, which stores the count of what it returns. Two more clear the stack."""
+    found = header_constants() | header_stack(header) | passed_entries(functions)
+    for name in ("saber_overwrite_stack", "saber_clear_stack"):
+        found |= entries(name, [], "void")
     for call in lookups():
         count = f"{call.name.removesuffix('_of')}_count: *mut usize"
         found |= entries(f"saber_{call.name}", [*passed(signature(call)), count], "*const u8")
@@ -214,7 +236,7 @@ MACRO = (
 )
 ROW = r"(\w+) = (\w+) \[(\w*)\] \(([^)]*)\) => \(([^)]*)\);"
 DECLARED = r"    fn (saber_\w+)\(([^)]*)\) -> (\w+);"
-SAFE = r"\npub fn (\w+)\(([^)]*)\) -> (.*) \{"
+SAFE = r"\npub fn (\w+)\(([^)]*)\)(?: -> (.*))? \{"
 CALLED = r"unsafe \{\s*(saber_\w+)\(((?:[^()]|\([^()]*\))*)\)\s*\}"
 FIELDS = r"pub struct Entry \{([^}]*)\}"
 VALUES = r"Ok\(Entry \{([^}]*)\}\)"
@@ -242,7 +264,7 @@ def package_entries(text):
         parameters += [(output, f"&mut [{type}]") for output, type in pairs(outputs, ": ")]
         found |= {f"what {name} calls": export} | entries(export, passed(parameters), "u8")
     for name, parameters, result in re.findall(DECLARED, text) + re.findall(SAFE, text):
-        found |= entries(name, items(parameters), result)
+        found |= entries(name, items(parameters), result or "()")
     for name, arguments in re.findall(CALLED, text):
         found |= numbered(f"argument to {name}", items(arguments))
     for form, what in ((FIELDS, "field of Entry"), (VALUES, "value of Entry")):
@@ -289,8 +311,8 @@ def written_out(call):
     return found | numbered("value of Entry", map(handed_back, call.handed))
 
 
-def expected_of_package(functions):
-    found = {f"macro, line {i}": line for i, line in enumerate(MACRO, 1)}
+def expected_of_package(functions, header):
+    found = {f"macro, line {i}": line for i, line in enumerate(MACRO, 1)} | entries("clear_stack", [], "()")
     for call in CALLS.values():
         if call.handed or any(map(is_optional, call.inputs)):
             found |= written_out(call)
@@ -298,7 +320,7 @@ def expected_of_package(functions):
             found[f"what {call.name} calls"] = call.exports[0]
     for call in lookups():
         found |= entries(call.name, in_words(signature(call)), "&[u8]")
-    return found | package_constants() | passed_entries(functions)
+    return found | package_constants() | package_stack(header) | passed_entries(functions)
 
 
 # What goes by the table besides
@@ -309,8 +331,8 @@ def listed_entries(texts):
     found = {}
     for numbers, name in re.findall(r"(?:No refusal|Refusals: ([\d, ]+))\.\nuint8_t (\w+)\(", texts[HEADER]):
         found[f"refusals of {name}"] = items(numbers)
-    for name in re.findall(r"\bDO\((\w+),", texts[STACK]):
-        found[f"{name} in {STACK}"] = "run"
+    for name in re.findall(r"\bDO\((\w+),", texts[ALL_CALLS]):
+        found[f"{name} in {ALL_CALLS}"] = "run"
     for name in re.findall(r"\b(?:DO\(|saber_)(\w+)[,(]", texts[UNREAD]):
         found[f"{name} in {UNREAD}"] = "run"
     for by, name in re.findall(r"\bBY_(LENGTHS|CONTENT), (\w+),", texts[SECRETS]):
@@ -327,7 +349,7 @@ def expected_lists(texts):
     for name, call in CALLS.items():
         if call.outputs:
             found[f"refusals of saber_{name}"] = [str(number) for number in call.questions]
-            found[f"{name} in {STACK}"] = found[f"{name} in {UNREAD}"] = "run"
+            found[f"{name} in {ALL_CALLS}"] = found[f"{name} in {UNREAD}"] = "run"
             found[f"{name} in {SECRETS}"] = {"CONTENT" if 8 in call.questions else "LENGTHS"}
     return found
 
@@ -356,10 +378,11 @@ def differences(codes):
         functions, types = read(LIBRARY, exported, codes), {}
         for name, (parameters, result) in functions.items():
             types |= entries(name, in_words(parameters), result)
+        header = read(HEADER, header_entries, codes)
         return [
             *compared(LIBRARY, types, oracle_entries()),
-            *compared(HEADER, read(HEADER, header_entries, codes), expected_of_header(functions)),
-            *compared(PACKAGE, read(PACKAGE, package_entries, codes), expected_of_package(functions)),
+            *compared(HEADER, header, expected_of_header(functions, header)),
+            *compared(PACKAGE, read(PACKAGE, package_entries, codes), expected_of_package(functions, header)),
         ]
     except Unreadable as reason:
         return [str(reason)]
@@ -370,7 +393,7 @@ def differences(codes):
 # Where: the declarations that are compared. What: one of them, the order of two parameters, a token.
 PARTS = {
     LIBRARY: EXPORT,
-    HEADER: r"enum[^}]*\};|[\w ]+ \*?\w+\([^)]*\)(?:;|(?= \{))",
+    HEADER: r"enum[^}]*\};|(?m:^)\w[\w ]* \*?\w+\([^)]*\)(?:;|(?= \{))",
     PACKAGE: "|".join(
         [*map(re.escape, MACRO), ROW, DECLARED, SAFE, CALLED, FIELDS, VALUES, NUMBER, SET, REFUSAL, ANSWER]
     ),
@@ -425,7 +448,7 @@ def tried(texts, place, changes, differences):
 
 
 def main():
-    texts = {place: (ROOT / place).read_text() for place in (LIBRARY, HEADER, PACKAGE, STACK, SECRETS, UNREAD)}
+    texts = {place: (ROOT / place).read_text() for place in (LIBRARY, HEADER, PACKAGE, ALL_CALLS, SECRETS, UNREAD)}
     codes = {place: code(texts[place]) for place in (LIBRARY, HEADER, PACKAGE)}
     found = differences(codes) + listed_differences(texts)
     if found:
@@ -433,7 +456,8 @@ def main():
     count = sum(tried(codes, place, changes(place, text), differences) for place, text in codes.items())
     for place in (HEADER, PACKAGE):
         count += tried(texts, place, changed_numbers(texts[place]), listed_differences)
-    functions, constants = exported(codes[LIBRARY]), [*header_constants(), *package_constants()]
+    functions = exported(codes[LIBRARY])
+    constants = [*header_constants(), *package_constants(), *STACK_CONSTANTS, *filter(None, STACK_CONSTANTS.values())]
     print(f"interface: {len(functions)} functions and {len(constants)} constants agree, {count} changes are found")
 
 

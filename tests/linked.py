@@ -5,11 +5,19 @@ from pathlib import Path
 
 ROOT = Path(__file__).resolve().parent.parent
 OPTIONS = ["-std=c99", "-Wall", "-Wextra", "-pedantic", "-Werror", "-I", ROOT / "include"]
+ARCHIVE = ROOT / "target" / "staticlib" / "libsaber.a"
 
 
-def linked(name, folder):
-    """The program of tests/NAME.c, not optimised, so that what it holds as a control stays there."""
+def linked(name, folder, compiler="cc", options=(), library=ARCHIVE):
+    """The program of tests/NAME.c. If no option says so it is not optimised, so that a control in it stays there."""
     program = Path(folder) / name
-    archive = ROOT / "target" / "staticlib" / "libsaber.a"
-    subprocess.run(["cc", *OPTIONS, "-o", program, ROOT / "tests" / f"{name}.c", archive], check=True)
+    subprocess.run([compiler, *OPTIONS, *options, "-o", program, ROOT / "tests" / f"{name}.c", library], check=True)
     return program
+
+
+def shared(folder):
+    """The archive as a shared library, whose functions are bound when they are first called."""
+    library = Path(folder) / "libsaber.so"
+    whole = ["-Wl,--whole-archive", ARCHIVE, "-Wl,--no-whole-archive"]
+    subprocess.run(["cc", "-shared", "-Wl,-z,lazy", "-o", library, *whole], check=True)
+    return library

@@ -5,15 +5,16 @@
 
 #include <stddef.h>
 #include <stdint.h>
-#include <string.h>
 #include <ucontext.h>
 
 enum { STACK = 1 << 17, PAINT = 0xa5 };
 static uint8_t stack[STACK];
 
+// The stack is painted without memset, so that a function that calls it first has it bound on the painted stack.
 static void run_on_stack(void (*function)(void)) {
     static ucontext_t here, there;
-    memset(stack, PAINT, STACK);
+    for (volatile uint8_t *byte = stack; byte < stack + STACK; byte++)
+        *byte = PAINT;
     getcontext(&there);
     there.uc_stack.ss_sp = stack;
     there.uc_stack.ss_size = STACK;

@@ -230,13 +230,6 @@ def sentences():
 
 PROSE = r'//[/!]?(?P<comment>.*)|"(?P<string>[^"]*)"'
 NUMBER = r"(?<!\w)\d+(?!\w)"
-# Its numbers are measured, and tests/stack.c holds the library to them.
-STACK = r"^//!? - (?:\*\*)?secrets stay on the stack(?s:.*?)(?=^//!? - )"
-
-
-def without_stack(text):
-    """The lines of that paragraph are empty."""
-    return re.sub(STACK, lambda match: "\n" * match[0].count("\n"), text, flags=re.MULTILINE | re.IGNORECASE)
 
 
 def plain(text):
@@ -261,7 +254,7 @@ def differences(place, text, sentences):
 
 def prose_differences(place, text):
     """Those of the header or the package."""
-    parts = (match["comment"] or match["string"] or "" for match in re.finditer(PROSE, without_stack(text)))
+    parts = (match["comment"] or match["string"] or "" for match in re.finditer(PROSE, text))
     return differences(place, " ".join(parts), sentences()[place])
 
 
@@ -273,7 +266,6 @@ def changed_at(text, number):
 
 def changed_numbers(text):
     """The text with one number of its prose changed, every way."""
-    text = without_stack(text)
     for part in re.finditer(PROSE, text):
         for number in re.compile(NUMBER).finditer(text, *part.span()):
             yield from changed_at(text, number)

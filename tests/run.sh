@@ -62,8 +62,11 @@ test_with valgrind 'a round trip under valgrind' \
 test_of 'divisions' python3 tests/divisions.py
 test_with valgrind 'jumps and addresses that depend on secrets' python3 tests/secrets.py
 test_with valgrind 'instructions of decapsulation, accepted and rejected' python3 tests/counts.py
-test_of 'the stack test, built' c99 stack tests/stack.c
-test_of 'what the calls leave on the stack' "$work/stack"
+test_of 'what the calls leave on the stack, and its clearing' python3 tests/stack.py
+test_of 'the test of thread stacks, built' c99 thread_stacks tests/thread_stacks.c -pthread -Wl,-z,lazy
+test_of 'the least stack of a thread' env -u LD_BIND_NOW "$work/thread_stacks"
+test_of 'the test of threads, built' c99 threads tests/threads.c oracle/plain.c -pthread
+test_of 'calls in several threads against the plain implementation' "$work/threads" 3
 test_of 'the test of unread memory, built' c99 unread tests/unread.c
 test_of 'refused calls on memory that cannot be read' "$work/unread"
 test_of 'random calls against the oracle' python3 tests/differential.py
@@ -77,7 +80,9 @@ test_of 'margins against the oracle' python3 tests/margins.py
 test_of 'programs whose input or output fails' python3 tests/failing.py
 test_of 'README: its shell lines, C program, table and numbers' python3 tests/readme.py
 test_with cargo 'README: its Rust example' python3 tests/readme.py rust
-test_with cargo 'the Rust package' cargo test --offline --quiet --manifest-path bindings/rust/Cargo.toml --test calls
+test_with cargo 'the Rust package' cargo test --offline --quiet --manifest-path bindings/rust/Cargo.toml
+test_with cargo 'the Rust package, optimised' \
+    cargo test --release --offline --quiet --manifest-path bindings/rust/Cargo.toml
 test_with cargo 'the archive where SABER_LIB_DIR says' python3 tests/lib_dir.py
 
 # The tests that were run or skipped against the list, each as `TITLE | TOOL`.

@@ -7,14 +7,14 @@
 //!
 //! - **Seeds, z among them, are fresh, unpredictable and used once**: 32 bytes that the system's generator gives for this one call, kept
 //!   secret and erased after it. The calls say what goes wrong otherwise.
-//! - **Secrets stay on the stack.** No call clears what it leaves below its caller's frame, less than 30 KiB. To clear it, call right after
-//!   it, from the same function, one that is `#[inline(never)]` and overwrites a local array of 30 KiB with `write_volatile`, or run the
-//!   calls on a stack of your own and erase that.
+//! - **Secrets stay on the stack.** No call clears what it leaves below its caller's frame, less than [`STACK`] bytes. To clear it, call
+//!   [`clear_stack`] right after the call, from the same function, or run the calls on a stack of your own and erase that.
 //! - **Set 2 reads a table of 256 bytes at places that secret bytes decide**, in [`keygen`], [`encaps`], [`decaps`], [`encrypt`] and
 //!   [`gen_secret`]. Who can watch the processor's cache learns something of them. Sets 1 and 3 have no such address.
 #![no_std]
 
 use core::fmt;
+use core::mem::MaybeUninit;
 
 /// A parameter set: its number for the calls, the count of polynomials in a vector, and its sizes in bytes.
 #[derive(Clone, Copy, Debug, PartialEq, Eq)]
@@ -37,6 +37,21 @@ pub const SEED: usize = 32;
 
 /// Coefficients of a polynomial.
 pub const N: usize = 256;
+
+/// Bytes that [`clear_stack`] overwrites, more than a call leaves below its caller's frame.
+pub const STACK: usize = 32768;
+
+/// Overwrites [`STACK`] bytes below its caller's frame, and with them what a call left that the same function made just before. It is not
+/// inlined, so that its frame lies where the call had its frame.
+#[inline(never)]
+pub fn clear_stack() {
+    let mut room = MaybeUninit::<[u64; STACK / 8]>::uninit();
+    let words = room.as_mut_ptr().cast::<u64>();
+    for i in 0..STACK / 8 {
+        // SAFETY: the word is one of the array's.
+        unsafe { words.add(i).write_volatile(0) };
+    }
+}
 
 /// Why a call was refused: the first of these that applies; [`read_record`] has an order of its own. More may be added.
 #[derive(Clone, Copy, Debug, PartialEq, Eq)]
