@@ -91,7 +91,7 @@ class Trial:
         self.compare("a full device", program, found, (None, 0, said(program, "output", errno.ENOSPC)))
 
     def closed(self, program, given):
-        found = self.run(program, given, stdout=None, preexec_fn=lambda: os.close(1))
+        found = self.run(program, given, stdout=subprocess.DEVNULL, preexec_fn=lambda: os.close(1))
         self.compare("a closed output", program, found, (None, 0, said(program, "output", errno.EBADF)))
 
     def limited(self, program, given, expected, limit):
@@ -158,7 +158,7 @@ class Trial:
 
     def unreadable(self, program):
         """Input that is closed, and input that opens and cannot be read."""
-        closed = self.run(program, None, stdin=None, preexec_fn=lambda: os.close(0))
+        closed = self.run(program, None, stdin=subprocess.DEVNULL, preexec_fn=lambda: os.close(0))
         self.compare("a closed input", program, closed, (b"", 0, said(program, "input", errno.EBADF)))
         folder = os.open("/", os.O_RDONLY)
         found = self.run(program, None, stdin=folder)

@@ -96,7 +96,7 @@ sort "$work/tried" | diff "$work/listed" - >"$work/differences" || {
 for file in tests/*.py tests/*.c; do
     name=${file#tests/}
     name=${name%.*}
-    grep -q "$file" .ci/run tests/run.sh || grep -Eq "^(from|import) $name\b|linked\(\"$name\"" tests/*.py || {
+    grep -q "$file" .ci/run tests/run.sh || grep -Eq "^(from|import) $name\b|linked\(\"$name\"|\"$file\"" tests/*.py || {
         echo "no test runs $file"
         exit 1
     }
