@@ -311,8 +311,12 @@ static void ask(struct text *given, struct text *replies, size_t lines) {
     append(given, request, (size_t)sprintf(request, "pack 5 - %032llx\n", times));
     sprintf(end, "2 %032llx\n", times);
     exchange(&kept, given, replies, end, lines + 1);
-    CHECK(ends_with(replies, end));
+    CHECK(ends_with(replies, end)); // no reply too many
     replies->count -= strlen(end);
+    size_t replied = 0;
+    for (size_t i = 0; i < replies->count; i++)
+        replied += replies->bytes[i] == '\n';
+    CHECK(replied == lines);
 }
 
 // Asks a process of its own, whose input ends where the text does.
@@ -362,7 +366,6 @@ int LLVMFuzzerTestOneInput(const uint8_t *input, size_t count) {
         if (!is_comment(line))
             check_reply(line, take(&replies_left, '\n'));
     }
-    CHECK(replies_left.count == 0);
     CHECK(same_text(&replies, &other_replies));
     return 0;
 }
