@@ -103,7 +103,7 @@ static size_t length_to_lend(uint8_t choice, const uint8_t *record, size_t count
     }
 }
 
-// Writes an entry to a record of so many bytes, and compares answer and bytes with what they have to be.
+// Writes an entry to a record of `count` bytes, and compares answer and bytes with what they have to be.
 static void try_write(const struct entry *entry, uint32_t set, const uint8_t *ciphertext, size_t ciphertext_count,
                       const uint8_t *record, size_t count, uint8_t expected) {
     uint8_t *written = block(count);

@@ -268,7 +268,7 @@ static size_t give(int to, const uint8_t *bytes, size_t count) {
 }
 
 // Writes a text and reads what comes back in the meantime, since neither side may have to wait for the other, until the
-// replies end with `end`, or have so many lines. With no end the input is closed, and all replies are read.
+// replies end with `end`, or have `lines` lines. With no end the input is closed, and all replies are read.
 static void exchange(struct process *process, const struct text *given, struct text *replies, const char *end,
                      size_t lines) {
     static uint8_t piece[PIECE];
