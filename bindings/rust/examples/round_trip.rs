@@ -27,6 +27,7 @@ fn round_trip(name: &str, set: Set) -> Result<(), Anything> {
 
     let mut received = [0; SEED];
     saber::decaps(set.number, &secret_key, &ciphertext, &mut received)?;
+    saber::clear_stack();
 
     println!("{name}: public key {} bytes, secret key {}, ciphertext {}", public_key.len(), secret_key.len(), ciphertext.len());
     println!("  sent     {}", hex(&sent));
