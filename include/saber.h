@@ -18,7 +18,9 @@
 // - SECRETS STAY ON THE STACK. No call clears what it leaves below its caller's frame, less than SABER_STACK_BYTES. To clear it, call
 //   saber_clear_stack() right after the call, from the same function, or run the calls on a stack of your own and erase that.
 // - A THREAD THAT MAKES CALLS HAS A STACK OF SABER_THREAD_STACK_BYTES OR MORE, enough for each call, its clearing and what glibc keeps on
-//   the same stack, the thread's descriptor and small thread-local storage.
+//   the same stack, the thread's descriptor and small thread-local storage. Measured under glibc on x86-64, with all that: 36 KiB are
+//   enough for saber_keygen, saber_encaps, saber_decaps and saber_encrypt, 24 for saber_decrypt, 20 for any other call, and 44 with the
+//   clearing.
 // - SET 2 READS A TABLE OF 256 BYTES AT PLACES THAT SECRET BYTES DECIDE, in saber_keygen, saber_encaps, saber_decaps, saber_encrypt and
 //   saber_gen_secret. Who can watch the processor's cache learns something of them. Sets 1 and 3 have no such address.
 #ifndef SABER_H

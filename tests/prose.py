@@ -1,9 +1,9 @@
 """The prose of the C header and the Rust package against the oracle.
 
 Prose is what stands in comments and strings. `sentences` has those with a number that a program relies on, each number
-had from the oracle. A text lacks none of them, and no number of its prose stands outside of one. `changed_numbers`
-gives a text with one such number changed, for every one of them. tests/interface.py runs all of this, and
-tests/readme.py does the same for README.md.
+had from the oracle, or, of thread stacks, from the test that measures them. A text lacks none of them, and no number of
+its prose stands outside of one. `changed_numbers` gives a text with one such number changed, for every one of them.
+tests/interface.py runs all of this, and tests/readme.py does the same for README.md.
 """
 
 import bisect
@@ -121,6 +121,15 @@ class Records:
         return self.bytes_of(door, None) - self.bare
 
 
+def thread_stacks():
+    """The KiB to which tests/thread_stacks.c holds the calls."""
+    source = (ROOT / "tests/thread_stacks.c").read_text()
+    found = re.search(r"SCHEME = (\d+), DECRYPT = (\d+), OTHER = (\d+), CLEARED = (\d+)", source)
+    if not found:
+        raise Unreadable("tests/thread_stacks.c: what the header names")
+    return found.groups()
+
+
 # Sentences
 
 
@@ -196,6 +205,7 @@ def sentences():
     ok, sets, found = answer("shake128", b"", b""), listed(saber.SETS), Records()
     signed, unsigned = (len(ELEMENTS[kind]).bit_length() - 1 for kind in ("signed", "list"))
     door, *_ = CALLS["read_record"].handed
+    scheme, decrypt, other, cleared = thread_stacks()
     refused = {f"Refusals: {', '.join(map(str, call.questions))}" for call in CALLS.values() if call.outputs}
     return {
         HEADER: [
@@ -207,6 +217,9 @@ def sentences():
             f"set is {sets}",
             f"door has {door.role.bits} bits: a program that was compiled when it had {8 * found.short}",
             f"Polynomials of {saber.N} coefficients",
+            f"Measured under glibc on x86-64, with all that: {scheme} KiB are enough for saber_keygen, saber_encaps,"
+            f" saber_decaps and saber_encrypt, {decrypt} for saber_decrypt, {other} for any other call, and {cleared}"
+            " with the clearing",
             # Numbers that no program relies on but as none
             "also where its count is 0",
             "Both are 0 where the set is unknown",
