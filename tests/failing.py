@@ -26,6 +26,7 @@ from drawing import ROOT, sound_arguments
 import notation
 import saber
 from calls import CALLS
+from linked import OPTIONS
 from planted import ALTERATIONS, Difference, must_find
 
 SECONDS = 60
@@ -66,8 +67,8 @@ class Trial:
         self.runs = Counter()
         self.library = Path(folder) / "failing.so"
         self.file = Path(folder) / "output"
-        flags = "-std=c99 -O2 -Wall -Wextra -pedantic -Werror -shared -fPIC".split()
-        subprocess.run(["cc", *flags, "-o", self.library, ROOT / "tests/failing.c"], check=True)
+        source = ROOT / "tests/failing.c"
+        subprocess.run(["cc", *OPTIONS, "-shared", "-fPIC", "-o", self.library, source], check=True)
 
     def compare(self, kind, program, found, expected):
         """Notes a run, or raises how it differs: in what it wrote, its exit status, or what it said."""

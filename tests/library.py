@@ -6,10 +6,9 @@ For a test of these guards, a call can be made to write where it may not.
 import copy
 import ctypes
 import struct
-import subprocess
-from pathlib import Path
 
 from calls import CALLS
+from linked import shared
 
 CODES = {8: "B", 32: "I", 64: "Q"}  # of numbers in memory, by their bits
 TYPES = {8: ctypes.c_uint8, 32: ctypes.c_uint32, 64: ctypes.c_uint64}
@@ -89,11 +88,7 @@ def passed_number(draw, role, value):
 
 class Library:
     def __init__(self, archive, folder):
-        shared = str(Path(folder) / "libsaber.so")
-        subprocess.run(
-            ["cc", "-shared", "-o", shared, "-Wl,--whole-archive", str(archive), "-Wl,--no-whole-archive"], check=True
-        )
-        library, self.functions = ctypes.CDLL(shared), {}
+        library, self.functions = ctypes.CDLL(str(shared(folder, archive))), {}
         for call in CALLS.values():
             for export in call.exports:
                 self.functions[export] = library[export]  # each look into the library makes a function anew

@@ -15,9 +15,9 @@ def linked(name, folder, compiler="cc", options=(), library=ARCHIVE):
     return program
 
 
-def shared(folder):
+def shared(folder, archive=ARCHIVE):
     """The archive as a shared library, whose functions are bound when they are first called."""
     library = Path(folder) / "libsaber.so"
-    whole = ["-Wl,--whole-archive", ARCHIVE, "-Wl,--no-whole-archive"]
+    whole = ["-Wl,--whole-archive", archive, "-Wl,--no-whole-archive"]
     subprocess.run(["cc", "-shared", "-Wl,-z,lazy", "-o", library, *whole], check=True)
     return library

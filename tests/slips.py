@@ -54,8 +54,8 @@ def disabled(test, file, condition):
 
 def dropped(what, start):
     """A test that is dropped from run.sh."""
-    [line] = [line for line in (ROOT / RUN).read_text().splitlines() if line.startswith(start)]
-    return Slip(f"{what} dropped from {RUN}", "run.sh", RUN, line, "")
+    found = [line for line in (ROOT / RUN).read_text().splitlines() if line.startswith(start)]
+    return Slip(f"{what} dropped from {RUN}", "run.sh", RUN, found[0] if found else start, "")
 
 
 AGREE = '!accepted("the answer of decaps", answer) || !same("the secret of decaps", opened[0], opened[1], 32)'
