@@ -7,5 +7,6 @@ pub mod Product
 pub mod Reduced
 pub mod Table
 pub mod Vectors
+pub mod Matrices
 pub mod Lines
 pub mod Halves

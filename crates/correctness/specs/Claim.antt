@@ -9,7 +9,7 @@ use Rattle.sets.specs.declared.Params.{Params}
 use Rattle.sets.specs.Sets
 use Rattle.sets.specs.Sets.{paramsOf}
 use Rattle.algebra.specs.Ring.{poly}
-use Rattle.vectors.specs.Vectors.{entry}
+use Rattle.algebra.specs.Vectors.{entry}
 use Rattle.sha3.specs.Hashes.{shake128, sha3-256}
 use Rattle.sampling.specs.Sampling.{matrix, secret}
 use Rattle.pke.specs.Pke.{decrypted}

@@ -1,4 +1,4 @@
 pub mod Decimals
 pub mod Signed
-pub mod Rooms
+pub mod Ensures
 pub mod Laws

@@ -6,7 +6,7 @@ ghost use lib.IntN.{pos, negℤ, natAbs};
 ghost use lib.ListN.{length, getD, take};
 ghost use Rattle.decimals.specs.Decimals.{ReadDecimal, decimal};
 ghost use Rattle.decimals.specs.Signed.{ReadList, numberText, listText};
-ghost use Rattle.decimals.specs.Rooms.{Longer, ReadPiece, Appended};
+ghost use Rattle.decimals.specs.Ensures.{Longer, ReadPiece, Appended};
 
 // What is wrong with a word, or nothing.
 pub const SOUND: u8 = 0;

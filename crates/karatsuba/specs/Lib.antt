@@ -1,2 +1,3 @@
-pub mod Rooms
+pub mod Requires
+pub mod Ensures
 pub mod Laws

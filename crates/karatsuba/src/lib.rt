@@ -5,8 +5,9 @@ ghost use lib.ListN.{length};
 ghost use Rattle.lists.specs.Lists.{from};
 ghost use Rattle.algebra.specs.Ring.{poly, blocks};
 ghost use Rattle.ring.specs.Promises.{Multiplied};
-ghost use Rattle.karatsuba.specs.Rooms.{foldAt, foldRow, Line, LaidLine, Laid, LayRoom, LineRoom, FoldedRoom, RowsRoom, source, rowsAdded};
-use lines::put;
+ghost use Rattle.karatsuba.specs.Ensures.{foldAt, foldRow, Line, LaidLine, Laid, source, rowsAdded};
+ghost use Rattle.karatsuba.specs.Requires.{LayScratch, LineScratch, FoldedScratch, RowsScratch};
+use karatsuba_base::put;
 use std::num;
 
 // Sixteen coefficients from place s on, behind 8 zeros.
@@ -25,7 +26,7 @@ fn line(f: &[u16], s: usize) -> [u16; 24]
 
 // Line g of each row and of b, at the place `at`.
 fn lay_line(rows: usize, a: &[u16], b: &[u16], g: usize, work: &mut [u16], at: usize)
-    requires { ⌜ LineRoom rows (length (now a)) (length (now b)) g (at + 24 * (rows + 1)) (length (now work)) ⌝ }
+    requires { ⌜ LineScratch rows (length (now a)) (length (now b)) g (at + 24 * (rows + 1)) (length (now work)) ⌝ }
     ensures { λ _. ⌜ LaidLine (source rows (now (a .entry)) (now (b .entry))) g (rows + 1) at (now (work .entry)) (now (work .exit)) ⌝ }
 {
     let mut i = 0;
@@ -40,7 +41,7 @@ fn lay_line(rows: usize, a: &[u16], b: &[u16], g: usize, work: &mut [u16], at: u
 
 // The operands, from the front.
 fn lay(rows: usize, a: &[u16], b: &[u16], work: &mut [u16])
-    requires { ⌜ LayRoom rows (length (now a)) (length (now b)) (length (now work)) ⌝ }
+    requires { ⌜ LayScratch rows (length (now a)) (length (now b)) (length (now work)) ⌝ }
     ensures { λ _. ⌜ Laid rows (source rows (now (a .entry)) (now (b .entry))) 16 (now (work .entry)) (now (work .exit)) ⌝ }
 {
     let mut g = 0;
@@ -52,7 +53,7 @@ fn lay(rows: usize, a: &[u16], b: &[u16], work: &mut [u16])
 
 // Sixteen places of old + x - y, from o, x and y on.
 fn folded(work: &[u16], x: usize, y: usize, old: &[u16], o: usize) -> [u16; 16]
-    requires { ⌜ FoldedRoom x y (length (now work)) o (length (now old)) ⌝ }
+    requires { ⌜ FoldedScratch x y (length (now work)) o (length (now old)) ⌝ }
     ensures { λ r. ⌜ r ≡ from 16 (foldAt (now (work .entry)) x y (now (old .entry)) o) ⌝ }
 {
     let mut r = [0u16; 16];
@@ -95,12 +96,12 @@ fn fold(rows: usize, work: &[u16], x: usize, out: &mut [u16])
 
 // To each polynomial of out the product of b and the same one of a, modulo 65536; the caller lends the places to work in.
 pub fn rows_add(rows: usize, a: &[u16], b: &[u16], work: &mut [u16], out: &mut [u16])
-    requires { ⌜ RowsRoom rows (length (now a)) (length (now b)) (length (now work)) (length (now out)) ⌝ }
+    requires { ⌜ RowsScratch rows (length (now a)) (length (now b)) (length (now work)) (length (now out)) ⌝ }
     ensures { λ _. ⌜ now (out .exit) ≡ rowsAdded rows (now (a .entry)) (now (b .entry)) (now (out .entry)) ⌝ }
 {
     let x = 384 * (rows + 1);
     lay(rows, a, b, work);
-    halves::split(rows, 16, work, 0, x, x + 512 * rows);
+    karatsuba_split::split(rows, 16, work, 0, x, x + 512 * rows);
     fold(rows, work, x, out);
 }
 

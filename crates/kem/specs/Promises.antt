@@ -5,7 +5,7 @@ use mathlib.Core.Path.{_≡_}
 use lib.ListN.{length}
 use Rattle.questions.specs.Answers.{earliest, written, Wrote}
 use Rattle.sets.specs.Sets.{paramsOf}
-use Rattle.answers.specs.Questions.{encapsQuestions, decapsQuestions}
+use Rattle.scheme_questions.specs.Questions.{encapsQuestions, decapsQuestions}
 use Rattle.kem.specs.Kem.{encapsCiphertext, encapsSecret, decapsSecret}
 
 pub record Encapsulated (set : ℕ) (pk seed ct ss : List ℕ) (r : ℕ) (ct' ss' : List ℕ) : Type 0 where

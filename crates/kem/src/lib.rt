@@ -3,7 +3,8 @@ ghost use mathlib.Core.Path.{_≡_};
 ghost use lib.ListN.{length};
 ghost use Rattle.kem.specs.Kem.{decapsSecret};
 ghost use Rattle.kem.specs.Promises.{Encapsulated, Decapsulated};
-ghost use Rattle.kem.specs.Rooms.{EncapsSpace, Encapsulation, AgainSpace, MadeAgain, DecapsSpace};
+ghost use Rattle.kem.specs.Requires.{EncapsScratch, AgainScratch, DecapsScratch};
+ghost use Rattle.kem.specs.Ensures.{Encapsulation, MadeAgain};
 use sets::Params;
 use sets::set_params;
 
@@ -16,7 +17,7 @@ fn encaps_with(
     ciphertext: &mut [u8],
     output: &mut [u8],
 )
-    requires { ⌜ EncapsSpace p (length (now «public_key»)) (length (now secret)) (length (now ciphertext)) (length (now output)) ⌝ }
+    requires { ⌜ EncapsScratch p (length (now «public_key»)) (length (now secret)) (length (now ciphertext)) (length (now output)) ⌝ }
     ensures { λ _. ⌜ Encapsulation p (now («public_key» .entry)) (now (seed .entry)) (now (ciphertext .exit)) (now (output .exit)) ⌝ }
 {
     let message = sha3::hash256(seed);
@@ -35,7 +36,7 @@ fn again_with(
     secret: &mut [u16],
     again: &mut [u8],
 ) -> [u8; 64]
-    requires { ⌜ AgainSpace p (length (now «secret_key»)) (length (now ciphertext)) (length (now secret)) (length (now again)) ⌝ }
+    requires { ⌜ AgainScratch p (length (now «secret_key»)) (length (now ciphertext)) (length (now secret)) (length (now again)) ⌝ }
     ensures { λ r. ⌜ MadeAgain p (now («secret_key» .entry)) (now (ciphertext .entry)) r (now (again .exit)) ⌝ }
 {
     let a = 416 * p.l;
@@ -57,7 +58,7 @@ fn decaps_with(
     again: &mut [u8],
     output: &mut [u8],
 )
-    requires { ⌜ DecapsSpace p (length (now «secret_key»)) (length (now ciphertext)) (length (now secret))
+    requires { ⌜ DecapsScratch p (length (now «secret_key»)) (length (now ciphertext)) (length (now secret))
         (length (now again)) (length (now output)) ⌝ }
     ensures { λ _. ⌜ now (output .exit) ≡ decapsSecret p (now («secret_key» .entry)) (now (ciphertext .entry)) ⌝ }
 {
@@ -78,7 +79,7 @@ pub fn encaps(
     ensures { λ r. ⌜ Encapsulated set (now («public_key» .entry)) (now (seed .entry)) (now (ciphertext .entry))
         (now («shared_secret» .entry)) r (now (ciphertext .exit)) (now («shared_secret» .exit)) ⌝ }
 {
-    let r = answers::encaps_answer(
+    let r = scheme_questions::encaps_answer(
         set,
         public_key.len(),
         seed.len(),
@@ -107,7 +108,12 @@ pub fn decaps(set: u32, secret_key: &[u8], ciphertext: &[u8], shared_secret: &mu
     ensures { λ r. ⌜ Decapsulated set (now («secret_key» .entry)) (now (ciphertext .entry)) (now («shared_secret» .entry))
         r (now («shared_secret» .exit)) ⌝ }
 {
-    let r = answers::decaps_answer(set, secret_key.len(), ciphertext.len(), shared_secret.len());
+    let r = scheme_questions::decaps_answer(
+        set,
+        secret_key.len(),
+        ciphertext.len(),
+        shared_secret.len(),
+    );
     if r != 0 {
         return r;
     }

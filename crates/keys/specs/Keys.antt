@@ -12,7 +12,7 @@ use Rattle.sha3.specs.Hashes.{shake128, sha3-256}
 use Rattle.algebra.specs.Ring.{residues}
 use Rattle.packing.specs.Packing.{packed}
 use Rattle.sampling.specs.Sampling.{secret}
-use Rattle.exchange.specs.Exchange.{roundedVector}
+use Rattle.lwr.specs.Lwr.{roundedVector}
 
 module _ (p : Params) where
   -- the public key: b, the rounded product of the transposed matrix and s, in 10 bits; then the stored matrix seed, the 32 bytes that

@@ -5,7 +5,7 @@ use mathlib.Core.Path.{_≡_}
 use lib.ListN.{length}
 use Rattle.questions.specs.Answers.{earliest, written}
 use Rattle.sets.specs.Sets.{paramsOf}
-use Rattle.answers.specs.Questions.{keygenQuestions}
+use Rattle.scheme_questions.specs.Questions.{keygenQuestions}
 use Rattle.keys.specs.Keys.{publicKey, secretKey}
 
 pub record Generated (set : ℕ) (matrixSeed secretSeed z pk sk : List ℕ) (r : ℕ) (pk' sk' : List ℕ) : Type 0 where

@@ -7,17 +7,18 @@ ghost use Rattle.questions.specs.Answers.{earliest};
 ghost use Rattle.algebra.specs.Ring.{nat};
 ghost use Rattle.packing.specs.Packing.{packed};
 ghost use Rattle.sha3.specs.Hashes.{sha3-256, shake128};
-ghost use Rattle.exchange.specs.Exchange.{roundedVector};
+ghost use Rattle.lwr.specs.Lwr.{roundedVector};
 ghost use Rattle.keys.specs.Keys.{lookupQuestions, publicKeyOf};
 ghost use Rattle.keys.specs.Promises.{Generated};
-ghost use Rattle.keys.specs.Rooms.{PublicRoom, SecretRoom, KeygenSpace, KeyPair};
+ghost use Rattle.keys.specs.Requires.{PublicLengths, SecretLengths, KeygenScratch};
+ghost use Rattle.keys.specs.Ensures.{KeyPair};
 use questions::ask;
 use sets::Params;
 use sets::set_params;
 
 // The public key: b, then the stored matrix seed, from which the matrix comes.
 fn public_key_into(l: usize, matrix_seed: &[u8], secret: &[u16], public_key: &mut [u8])
-    requires { ⌜ PublicRoom l (length (now secret)) (length (now «public_key»)) ⌝ }
+    requires { ⌜ PublicLengths l (length (now secret)) (length (now «public_key»)) ⌝ }
     ensures { λ _. ⌜ now («public_key» .exit)
         ≡ packed 10 (roundedVector true l (shake128 (now («matrix_seed» .entry)) 32) (nat (now (secret .entry))))
         ++ shake128 (now («matrix_seed» .entry)) 32 ⌝ }
@@ -25,13 +26,13 @@ fn public_key_into(l: usize, matrix_seed: &[u8], secret: &[u16], public_key: &mu
     let mut stored = [0u8; 32];
     sha3::shake128_into(matrix_seed, &mut stored);
     let e = 320 * l;
-    exchange::vector_into(true, l, &stored, secret, public_key);
+    lwr::vector_into(true, l, &stored, secret, public_key);
     lists::copy_at(&stored, public_key, e);
 }
 
 // The secret key: the plain secret, of 13 bits a coefficient, the public key, its hash and z.
 fn secret_key_into(l: usize, secret: &[u16], public_key: &[u8], z: &[u8], secret_key: &mut [u8])
-    requires { ⌜ SecretRoom l (now secret) (length (now «public_key»)) (length (now z)) (length (now «secret_key»)) ⌝ }
+    requires { ⌜ SecretLengths l (now secret) (length (now «public_key»)) (length (now z)) (length (now «secret_key»)) ⌝ }
     ensures { λ _. ⌜ now («secret_key» .exit)
         ≡ packed 13 (now (secret .entry)) ++ (now («public_key» .entry) ++ (sha3-256 (now («public_key» .entry)) ++ now (z .entry))) ⌝ }
 {
@@ -55,7 +56,7 @@ pub fn keygen_with(
     public_key: &mut [u8],
     secret_key: &mut [u8],
 )
-    requires { ⌜ KeygenSpace p (length (now z)) (length (now secret)) (length (now «public_key»)) (length (now «secret_key»)) ⌝ }
+    requires { ⌜ KeygenScratch p (length (now z)) (length (now secret)) (length (now «public_key»)) (length (now «secret_key»)) ⌝ }
     ensures { λ _. ⌜ KeyPair p (now («matrix_seed» .entry)) (now («secret_seed» .entry)) (now (z .entry))
         (now («public_key» .exit)) (now («secret_key» .exit)) ⌝ }
 {
@@ -76,7 +77,7 @@ pub fn keygen(
     ensures { λ r. ⌜ Generated set (now («matrix_seed» .entry)) (now («secret_seed» .entry)) (now (z .entry)) (now («public_key» .entry))
         (now («secret_key» .entry)) r (now («public_key» .exit)) (now («secret_key» .exit)) ⌝ }
 {
-    let r = answers::keygen_answer(
+    let r = scheme_questions::keygen_answer(
         set,
         matrix_seed.len(),
         secret_seed.len(),

@@ -20,7 +20,7 @@ fn fill(input: &mut [u8]) -> Got
     if first.count == 0 {
         return first;
     }
-    if !report::is_set(input[0]) {
+    if !margin_text::is_set(input[0]) {
         return first;
     }
     let rest = streams::read_full(&mut input[1..n]);
@@ -36,7 +36,7 @@ fn print(input: &[u8], n: usize) -> bool
     requires { ⌜ n ≤ length (now input) ⌝ }
 {
     let mut text = [0u8; 64];
-    let r = report::report(&input[0..n], &mut text);
+    let r = margin_text::report(&input[0..n], &mut text);
     streams::write_all(&text[0..r])
 }
 

@@ -1,5 +1,5 @@
 pub mod Packing
 pub mod Cutting
-pub mod Room
+pub mod Lengths
 pub mod Polynomials
 pub mod Places

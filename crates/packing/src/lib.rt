@@ -6,7 +6,7 @@ ghost use Rattle.lists.specs.Strings.{placed};
 ghost use Rattle.questions.specs.Answers.{earliest};
 ghost use Rattle.packing.specs.Packing.{packed, unpacked, isWidth, packQuestions, unpackQuestions};
 ghost use Rattle.packing.specs.Promises.{Packed, Unpacked};
-ghost use Rattle.packing.specs.Rooms.{Fills, Appends, PlaceRoom, PlacesRoom};
+ghost use Rattle.packing.specs.Requires.{Fills, Appends, PlaceLengths, PlacesLengths};
 use questions::all_below;
 use questions::ask;
 
@@ -57,7 +57,7 @@ fn pack_into(width: u32, coefficients: &[u16], bytes: &mut [u8])
 
 // Packs a polynomial at a place of a larger output. No other byte of it changes.
 pub fn pack_at(out: &mut [u8], place: usize, width: u32, coefficients: &[u16])
-    requires { ⌜ PlaceRoom width (length (now coefficients)) place (length (now out)) ⌝ }
+    requires { ⌜ PlaceLengths width (length (now coefficients)) place (length (now out)) ⌝ }
     ensures { λ _. ⌜ now (out .exit) ≡ placed place (packed width (now (coefficients .entry))) (now (out .entry)) ⌝ }
 {
     let end = place + 32 * (width as usize);
@@ -66,7 +66,7 @@ pub fn pack_at(out: &mut [u8], place: usize, width: u32, coefficients: &[u16])
 
 // Packs l polynomials at a place of a larger output, one behind another.
 pub fn pack_vector_at(out: &mut [u8], place: usize, width: u32, l: usize, coefficients: &[u16])
-    requires { ⌜ PlacesRoom width l (now coefficients) place (length (now out)) ⌝ }
+    requires { ⌜ PlacesLengths width l (now coefficients) place (length (now out)) ⌝ }
     ensures { λ _. ⌜ now (out .exit) ≡ placed place (packed width (now (coefficients .entry))) (now (out .entry)) ⌝ }
 {
     let size = 32 * (width as usize);

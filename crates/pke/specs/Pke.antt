@@ -8,10 +8,10 @@ use Rattle.sets.specs.declared.Params.{Params}
 use Rattle.sets.specs.Sets.{added}
 use Rattle.algebra.specs.Ring.{nat}
 use Rattle.packing.specs.Packing.{packed, unpacked}
-use Rattle.vectors.specs.Vectors.{innerMod}
+use Rattle.algebra.specs.Vectors.{innerMod}
 use Rattle.sampling.specs.Sampling.{secret}
 use Rattle.reconciliation.specs.Reconciliation.{maskedPoly, reconData, recovered}
-use Rattle.exchange.specs.Exchange.{roundedVector}
+use Rattle.lwr.specs.Lwr.{roundedVector}
 
 module _ (p : Params) where
   -- the reconciliation data of a message: from v', the inner product of b and s' modulo 1024

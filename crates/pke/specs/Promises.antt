@@ -4,7 +4,7 @@ use mathlib.Core.List.{List}
 use lib.ListN.{length}
 use Rattle.questions.specs.Answers.{earliest, Wrote}
 use Rattle.sets.specs.Sets.{paramsOf}
-use Rattle.answers.specs.Questions.{encryptQuestions, decryptQuestions}
+use Rattle.scheme_questions.specs.Questions.{encryptQuestions, decryptQuestions}
 use Rattle.pke.specs.Pke.{encrypted, decrypted}
 
 abbrev pub Encrypted : ℕ → List ℕ → List ℕ → List ℕ → List ℕ → ℕ → List ℕ → Type 0

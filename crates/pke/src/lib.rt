@@ -7,13 +7,13 @@ ghost use Rattle.packing.specs.Packing.{packed, unpacked};
 ghost use Rattle.reconciliation.specs.Reconciliation.{maskedPoly, reconData, recovered};
 ghost use Rattle.pke.specs.Pke.{encrypted, decrypted};
 ghost use Rattle.pke.specs.Promises.{Encrypted, Decrypted};
-ghost use Rattle.pke.specs.Rooms.{DataRoom, MessageRoom, EncryptSpace, DecryptSpace};
+ghost use Rattle.pke.specs.Requires.{DataLengths, MessageLengths, EncryptScratch, DecryptScratch};
 use sets::Params;
 use sets::set_params;
 
 // The reconciliation data of a message, from v', at a place of the ciphertext. One array holds the message's bits and then the data.
 fn data_at(ciphertext: &mut [u8], place: usize, p: Params, v: &[u16; 256], message: &[u8])
-    requires { ⌜ DataRoom p (length (now message)) place (length (now ciphertext)) ⌝ }
+    requires { ⌜ DataLengths p (length (now message)) place (length (now ciphertext)) ⌝ }
     ensures { λ _. ⌜ now (ciphertext .exit) ≡ placed place
         (packed (p .bits) (reconData (p .g) (maskedPoly (now (v .entry)) (unpacked 1 (now (message .entry))))))
         (now (ciphertext .entry)) ⌝ }
@@ -28,7 +28,7 @@ fn data_at(ciphertext: &mut [u8], place: usize, p: Params, v: &[u16; 256], messa
 
 // The message, from v and the reconciliation data.
 fn message_into(p: Params, v: &[u16; 256], data: &[u8], message: &mut [u8])
-    requires { ⌜ MessageRoom p (length (now «data»)) (length (now message)) ⌝ }
+    requires { ⌜ MessageLengths p (length (now «data»)) (length (now message)) ⌝ }
     ensures { λ _. ⌜ now (message .exit)
         ≡ packed 1 (recovered (p .g) (added p) (now (v .entry)) (unpacked (p .bits) (now («data» .entry)))) ⌝ }
 {
@@ -48,13 +48,13 @@ pub fn encrypt_with(
     secret: &mut [u16],
     ciphertext: &mut [u8],
 )
-    requires { ⌜ EncryptSpace p (length (now «public_key»)) (length (now message)) (length (now secret)) (length (now ciphertext)) ⌝ }
+    requires { ⌜ EncryptScratch p (length (now «public_key»)) (length (now message)) (length (now secret)) (length (now ciphertext)) ⌝ }
     ensures { λ _. ⌜ now (ciphertext .exit) ≡ encrypted p (now («public_key» .entry)) (now (message .entry)) (now (seed .entry)) ⌝ }
 {
     let e = 320 * p.l;
     let key = p.pk;
     sampling::secret_residues_into(p.l, p.mu, seed, secret);
-    let v = exchange::both_into(
+    let v = lwr::both_into(
         p.l,
         &public_key[e..key],
         &public_key[0..e],
@@ -72,13 +72,13 @@ pub fn decrypt_with(
     secret: &mut [u16],
     message: &mut [u8],
 )
-    requires { ⌜ DecryptSpace p (length (now «plain_secret»)) (length (now ciphertext)) (length (now secret)) (length (now message)) ⌝ }
+    requires { ⌜ DecryptScratch p (length (now «plain_secret»)) (length (now ciphertext)) (length (now secret)) (length (now message)) ⌝ }
     ensures { λ _. ⌜ now (message .exit) ≡ decrypted p (now («plain_secret» .entry)) (now (ciphertext .entry)) ⌝ }
 {
     let e = 320 * p.l;
     let end = p.ct;
     packing::unpack_into(13, plain_secret, secret);
-    let v = exchange::inner(p.l, &ciphertext[0..e], secret);
+    let v = lwr::inner(p.l, &ciphertext[0..e], secret);
     message_into(p, &v, &ciphertext[e..end], message);
 }
 
@@ -93,7 +93,7 @@ pub fn encrypt(
     ensures { λ r. ⌜ Encrypted set (now («public_key» .entry)) (now (message .entry)) (now (seed .entry)) (now (ciphertext .entry))
         r (now (ciphertext .exit)) ⌝ }
 {
-    let r = answers::encrypt_answer(
+    let r = scheme_questions::encrypt_answer(
         set,
         public_key.len(),
         message.len(),
@@ -115,7 +115,12 @@ pub fn decrypt(set: u32, plain_secret: &[u8], ciphertext: &[u8], message: &mut [
     ensures { λ r. ⌜ Decrypted set (now («plain_secret» .entry)) (now (ciphertext .entry)) (now (message .entry))
         r (now (message .exit)) ⌝ }
 {
-    let r = answers::decrypt_answer(set, plain_secret.len(), ciphertext.len(), message.len());
+    let r = scheme_questions::decrypt_answer(
+        set,
+        plain_secret.len(),
+        ciphertext.len(),
+        message.len(),
+    );
     if r != 0 {
         return r;
     }

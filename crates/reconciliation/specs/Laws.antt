@@ -1,2 +1,2 @@
 pub mod Reconciliation
-pub mod Room
+pub mod Lengths

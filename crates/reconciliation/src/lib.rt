@@ -4,7 +4,7 @@ ghost use lib.ListN.{length};
 ghost use Rattle.questions.specs.Answers.{earliest};
 ghost use Rattle.reconciliation.specs.Reconciliation.{masked, bitOf, maskedPoly, reconData, recovered, reconDataQuestions, recoverQuestions};
 ghost use Rattle.reconciliation.specs.Promises.{ReconData, Recovered};
-ghost use Rattle.reconciliation.specs.Rooms.{ReconRoom, RecoverRoom};
+ghost use Rattle.reconciliation.specs.Requires.{ReconLengths, RecoverLengths};
 use questions::all_below;
 use questions::ask;
 use sets::set_params;
@@ -30,7 +30,7 @@ pub fn mask_into(v: &[u16; 256], bits: &[u16; 256], w: &mut [u16; 256])
 
 // The data of each coefficient. The step is a power of two, so the quotient by it is a shift.
 pub fn recon_into(g: u16, w: &[u16], data: &mut [u16])
-    requires { ⌜ ReconRoom g (length (now w)) (length (now «data»)) ⌝ }
+    requires { ⌜ ReconLengths g (length (now w)) (length (now «data»)) ⌝ }
     ensures { λ _. ⌜ now («data» .exit) ≡ reconData g (now (w .entry)) ⌝ }
 {
     let shift = u16::trailing_zeros(g);
@@ -50,7 +50,7 @@ fn bit_of(g: u16, added: u16, v: u16, data: u16) -> u16
 
 // The bit of each coefficient.
 pub fn recover_into(g: u16, added: u16, v: &[u16], data: &[u16], bits: &mut [u16])
-    requires { ⌜ RecoverRoom (length (now v)) (length (now «data»)) (length (now bits)) ⌝ }
+    requires { ⌜ RecoverLengths (length (now v)) (length (now «data»)) (length (now bits)) ⌝ }
     ensures { λ _. ⌜ now (bits .exit) ≡ recovered g added (now (v .entry)) (now («data» .entry)) ⌝ }
 {
     let mut i = 0;

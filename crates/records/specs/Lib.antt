@@ -1,5 +1,6 @@
 pub mod Records
 pub mod Before
 pub mod Promises
-pub mod Rooms
+pub mod Requires
+pub mod Ensures
 pub mod Laws

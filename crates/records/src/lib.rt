@@ -9,7 +9,8 @@ ghost use Rattle.questions.specs.Answers.{earliest};
 ghost use Rattle.records.specs.Records.{headLength, given, doorNumber, timeNumber, shortDoor, wideDoor, writeQuestions, stands};
 ghost use Rattle.records.specs.Records.{doorOf, timeOf, headIn, isMap, readQuestions, doorOrZero};
 ghost use Rattle.records.specs.Promises.{Recorded, Retrieved};
-ghost use Rattle.records.specs.Rooms.{Lays, WriteRoom};
+ghost use Rattle.records.specs.Ensures.{Lays};
+ghost use Rattle.records.specs.Requires.{WriteLengths};
 use questions::ask;
 use sets::set_params;
 
@@ -114,7 +115,7 @@ fn write_answer(map: u8, set: u32, ciphertext: usize, record: usize) -> u8
 
 // Writes the map, the numbers and the ciphertext, one behind the other.
 fn write_into(map: u8, door: Part, time: Part, set: u32, ciphertext: &[u8], record: &mut [u8])
-    requires { ⌜ WriteRoom (door .size) (time .size) (length (now ciphertext)) (length (now «record»)) ⌝ }
+    requires { ⌜ WriteLengths (door .size) (time .size) (length (now ciphertext)) (length (now «record»)) ⌝ }
     ensures { λ _. ⌜ now («record» .exit) ≡ digits 256 1 map ++ (digits 256 (door .size) (door .number)
         ++ (digits 256 (time .size) (time .number) ++ (digits 256 1 set ++ now (ciphertext .entry)))) ⌝ }
 {

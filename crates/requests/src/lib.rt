@@ -1,12 +1,12 @@
 // Requests: a line is read, and its reply is printed.
 ghost use Prim.Native.Nat.{_≤_};
 ghost use lib.ListN.{length};
-use calls::Found;
-use calls::Row;
-use notation::Bytes;
-use notation::List;
-use notation::Signed;
-use notation::Text;
+use call_table::Found;
+use call_table::Row;
+use call_words::Bytes;
+use call_words::List;
+use call_words::Signed;
+use call_words::Text;
 
 fn byte_buffer() -> Bytes {
     [0; 32768]
@@ -38,8 +38,8 @@ fn answer_request(row: Row, line: &[u8], at: usize) -> bool
     let mut spare = byte_buffer();
     let mut text = text_buffer();
     let shape = row.shape;
-    let a = arguments::read(shape, line, at, &mut bytes, &mut signed);
-    replies::reply(
+    let a = call_arguments::read(shape, line, at, &mut bytes, &mut signed);
+    call_replies::reply(
         row,
         a,
         &bytes,
@@ -68,12 +68,12 @@ pub fn answer(line: &[u8]) -> bool {
         return true;
     }
     if line.len() > 65536 {
-        return arguments::print(b"error too long\n");
+        return call_arguments::print(b"error too long\n");
     }
-    let end = notation::word_end(line, 0);
-    let is_written = match calls::row_of(&line[0..end]) {
+    let end = call_words::word_end(line, 0);
+    let is_written = match call_table::row_of(&line[0..end]) {
         Found::Row(row) => answer_request(row, line, end + 1),
-        Found::Nothing => arguments::print(b"error unknown call"),
+        Found::Nothing => call_arguments::print(b"error unknown call"),
     };
-    is_written && arguments::print(b"\n")
+    is_written && call_arguments::print(b"\n")
 }

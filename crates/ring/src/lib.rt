@@ -10,7 +10,7 @@ ghost use Rattle.algebra.specs.Ring.{nat, residues};
 ghost use Rattle.algebra.specs.Columns.{table};
 ghost use Rattle.ring.specs.Products.{isModulus, mulQuestions};
 ghost use Rattle.ring.specs.Promises.{Multiplied};
-ghost use Rattle.ring.specs.Rooms.{Factors};
+ghost use Rattle.ring.specs.Requires.{Factors};
 use questions::all_below;
 use questions::ask;
 use std::num;

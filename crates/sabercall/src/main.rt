@@ -1,7 +1,7 @@
 // Reads requests from standard input, a line each, and answers them.
 ghost use Prim.Native.Nat.{_≤_};
 ghost use lib.ListN.{length};
-ghost use Rattle.sabercall.specs.Rooms.{Good};
+ghost use Rattle.sabercall.specs.Requires.{Good};
 
 type Block = [u8; 65536];
 

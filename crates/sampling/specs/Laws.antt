@@ -1,3 +1,3 @@
 pub mod Halves
 pub mod Sampling
-pub mod Room
+pub mod Lengths

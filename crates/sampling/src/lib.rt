@@ -8,7 +8,7 @@ ghost use Rattle.packing.specs.Packing.{unpacked};
 ghost use Rattle.sha3.specs.Hashes.{shake128};
 ghost use Rattle.sampling.specs.Sampling.{matrix, secretOf, secret, genMatrixQuestions, genSecretQuestions};
 ghost use Rattle.sampling.specs.Promises.{GenMatrix, GenSecret};
-ghost use Rattle.sampling.specs.Rooms.{MatrixRoom, MatrixSpace, SampleRoom, CountSpace, SecretRoom};
+ghost use Rattle.sampling.specs.Requires.{MatrixLengths, MatrixScratch, SampleLengths, CountScratch, SecretLengths};
 use questions::ask;
 use sets::set_params;
 
@@ -22,7 +22,7 @@ pub fn packed_matrix_into(l: usize, seed: &[u8], bytes: &mut [u8])
 
 // The same as one flat list; the caller lends the place for the packed one.
 fn matrix_with(l: usize, seed: &[u8], bytes: &mut [u8], output: &mut [u16])
-    requires { ⌜ MatrixSpace l (length (now bytes)) (length (now output)) ⌝ }
+    requires { ⌜ MatrixScratch l (length (now bytes)) (length (now output)) ⌝ }
     ensures { λ _. ⌜ now (output .exit) ≡ matrix l (now (seed .entry)) ⌝ }
 {
     packed_matrix_into(l, seed, bytes);
@@ -31,7 +31,7 @@ fn matrix_with(l: usize, seed: &[u8], bytes: &mut [u8], output: &mut [u16])
 
 // The same, with a place of its own.
 fn matrix_into(l: usize, seed: &[u8], output: &mut [u16])
-    requires { ⌜ MatrixRoom l (length (now output)) ⌝ }
+    requires { ⌜ MatrixLengths l (length (now output)) ⌝ }
     ensures { λ _. ⌜ now (output .exit) ≡ matrix l (now (seed .entry)) ⌝ }
 {
     let mut bytes = [0u8; 6656];
@@ -41,20 +41,20 @@ fn matrix_into(l: usize, seed: &[u8], output: &mut [u16])
 
 // The coefficients that bytes give, by counting: a number of mu bits has the two pieces of one. The caller lends the places for the numbers.
 fn count_with(mu: u32, bytes: &[u8], numbers: &mut [u16], output: &mut [i8])
-    requires { ⌜ CountSpace mu (length (now bytes)) (length (now numbers)) (length (now output)) ⌝ }
+    requires { ⌜ CountScratch mu (length (now bytes)) (length (now numbers)) (length (now output)) ⌝ }
     ensures { λ _. ⌜ now (output .exit) ≡ secretOf mu (now (bytes .entry)) ⌝ }
 {
     packing::unpack_into(mu, bytes, numbers);
-    weights::weigh_numbers(mu / 2, numbers, output);
+    binomial::weigh_numbers(mu / 2, numbers, output);
 }
 
 // The coefficients that bytes give. A number of 8 bits is a byte, which the table weighs.
 fn sample_into(mu: u32, bytes: &[u8], output: &mut [i8])
-    requires { ⌜ SampleRoom mu (length (now bytes)) (length (now output)) ⌝ }
+    requires { ⌜ SampleLengths mu (length (now bytes)) (length (now output)) ⌝ }
     ensures { λ _. ⌜ now (output .exit) ≡ secretOf mu (now (bytes .entry)) ⌝ }
 {
     if mu == 8 {
-        weights::weigh_bytes(bytes, output);
+        binomial::weigh_bytes(bytes, output);
         return;
     }
     let mut numbers = [0u16; 1024];
@@ -64,7 +64,7 @@ fn sample_into(mu: u32, bytes: &[u8], output: &mut [i8])
 
 // The coefficients from SHAKE-128 of a seed, as many bytes as the buffer has.
 fn secret_with(mu: u32, seed: &[u8], buffer: &mut [u8], output: &mut [i8])
-    requires { ⌜ SampleRoom mu (length (now buffer)) (length (now output)) ⌝ }
+    requires { ⌜ SampleLengths mu (length (now buffer)) (length (now output)) ⌝ }
     ensures { λ _. ⌜ now (output .exit) ≡ secretOf mu (shake128 (now (seed .entry)) (length (now (buffer .entry)))) ⌝ }
 {
     sha3::shake128_into(seed, buffer);
@@ -73,7 +73,7 @@ fn secret_with(mu: u32, seed: &[u8], buffer: &mut [u8], output: &mut [i8])
 
 // The secret of l polynomials, as one flat list of signed numbers.
 pub fn secret_into(l: usize, mu: usize, seed: &[u8], output: &mut [i8])
-    requires { ⌜ SecretRoom l mu (length (now output)) ⌝ }
+    requires { ⌜ SecretLengths l mu (length (now output)) ⌝ }
     ensures { λ _. ⌜ now (output .exit) ≡ secret l mu (now (seed .entry)) ⌝ }
 {
     let mut buffer = [0u8; 768];
@@ -83,16 +83,16 @@ pub fn secret_into(l: usize, mu: usize, seed: &[u8], output: &mut [i8])
 
 // The same secret modulo 8192, as it is packed and multiplied; the caller lends the places for the signed numbers.
 fn secret_residues_with(l: usize, mu: usize, seed: &[u8], signed: &mut [i8], output: &mut [u16])
-    requires { ⌜ SecretRoom l mu (length (now signed)) × (length (now output) ≡ length (now signed)) ⌝ }
+    requires { ⌜ SecretLengths l mu (length (now signed)) × (length (now output) ≡ length (now signed)) ⌝ }
     ensures { λ _. ⌜ now (output .exit) ≡ residues 8192 (secret l mu (now (seed .entry))) ⌝ }
 {
     secret_into(l, mu, seed, signed);
-    weights::residues_into(signed, output);
+    binomial::residues_into(signed, output);
 }
 
 // The same, with places of its own.
 pub fn secret_residues_into(l: usize, mu: usize, seed: &[u8], output: &mut [u16])
-    requires { ⌜ SecretRoom l mu (length (now output)) ⌝ }
+    requires { ⌜ SecretLengths l mu (length (now output)) ⌝ }
     ensures { λ _. ⌜ now (output .exit) ≡ residues 8192 (secret l mu (now (seed .entry))) ⌝ }
 {
     let mut signed = [0i8; 1024];

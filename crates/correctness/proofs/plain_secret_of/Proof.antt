@@ -7,7 +7,7 @@ use lib.ListN.{take}
 use lib.Seq.{take-all}
 use Rattle.lists.specs.Laws.Parts.{first-part}
 use Rattle.sets.specs.declared.Params.{Params}
-use Rattle.sets.specs.Laws.Rows.{few-rows}
+use Rattle.sets.specs.Laws.Sets.{few-polynomials}
 use Rattle.correctness.proofs.plain_secret_of.Statement.{statement}
 use Rattle.correctness.proofs.plain_secret_of.Tie as tie
 
@@ -16,7 +16,7 @@ plain-secret-of-spec =
     tie.close
     (tie.spec
     (λ c κs. search needs)
-    (λ c. omega (arith, few-rows _ (c .before .set-params .ensures)))
+    (λ c. omega (arith, few-polynomials _ (c .before .set-params .ensures)))
     (λ c. search needs)
     (λ c. search needs)
     (λ c. search needs)

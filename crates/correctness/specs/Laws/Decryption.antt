@@ -10,19 +10,19 @@ use Rattle.lists.specs.Numbers.{Below}
 use Rattle.lists.specs.Laws.Lists.{from-at}
 use Rattle.sets.specs.declared.Params.{Params}
 use Rattle.sets.specs.Sets.{added}
-use Rattle.sets.specs.Rooms.{Row}
+use Rattle.sets.specs.Requires.{IsSet}
 use Rattle.algebra.specs.Ring.{residues, poly}
 use Rattle.algebra.specs.Laws.Reduced.{residues-below}
 use Rattle.algebra.specs.Laws.Vectors.{length-poly}
 use Rattle.packing.specs.Packing.{packed, unpacked}
 use Rattle.packing.specs.Laws.Packing.{recut-length, recut-below, packed-unpacked}
 use Rattle.packing.specs.Laws.Polynomials.{first-back, rest-back, whole-back}
-use Rattle.vectors.specs.Vectors.{entry, innerMod}
-use Rattle.vectors.specs.Laws.Vectors.{inner-secret}
+use Rattle.algebra.specs.Vectors.{entry, innerMod}
+use Rattle.algebra.specs.Laws.Matrices.{inner-secret}
 use Rattle.sampling.specs.Sampling.{matrix, secret}
 use Rattle.reconciliation.specs.Reconciliation.{masked, maskedPoly, recovered}
-use Rattle.exchange.specs.Exchange.{roundedVector}
-use Rattle.exchange.specs.Laws.Exchange.{length-vector, vector-below}
+use Rattle.lwr.specs.Lwr.{roundedVector}
+use Rattle.lwr.specs.Laws.Lwr.{length-vector, vector-below}
 use Rattle.pke.specs.Pke.{dataPoly, encrypted, decrypted}
 use Rattle.pke.specs.Laws.Lengths.{length-data, data-below}
 use Rattle.keys.specs.Laws.Parts.{length-residues}
@@ -30,7 +30,7 @@ use Rattle.noise.specs.Noise.{Fits, Carries, Within, v′, noise}
 use Rattle.noise.specs.Laws.Theorem.{small-noise}
 use Rattle.noise.specs.Laws.Flat.{v-flat, v′-flat}
 
-module _ (p : Params) (row : Row p) (fit : Fits (p .g) (p .margin) (added p)) (stored secretSeed coins m : List ℕ) where
+module _ (p : Params) (isSet : IsSet p) (fit : Fits (p .g) (p .margin) (added p)) (stored secretSeed coins m : List ℕ) where
   abbrev s : List ℤ
   s = secret (p .l) (p .mu) secretSeed
 
@@ -66,8 +66,8 @@ module _ (p : Params) (row : Row p) (fit : Fits (p .g) (p .margin) (added p)) (s
       rw (
         first-back 10 (p .l) (omega arith) b′ long _ (320 * p .l) (omega arith) (vector-below false (p .l) stored s′),
         rest-back 10 (p .l) (omega arith) b′ long _ (320 * p .l) (omega arith),
-        whole-back (p .bits) 1 (row .bitsSome) (dataPoly p b s′ m) (length-data p row b s′ m) (data-below p row b s′ m),
-        whole-back 13 (p .l) (omega arith) (residues 8192 s) (length-residues p row stored secretSeed stored)
+        whole-back (p .bits) 1 (isSet .bitsSome) (dataPoly p b s′ m) (length-data p isSet b s′ m) (data-below p isSet b s′ m),
+        whole-back 13 (p .l) (omega arith) (residues 8192 s) (length-residues p isSet stored secretSeed stored)
             (λ k h. residues-below 8192 (omega arith) s k),
         inner-secret,
       )

@@ -7,8 +7,8 @@ use Rattle.lists.specs.Laws.Strings.{same-refl}
 use Rattle.sets.specs.declared.Params.{Params}
 use Rattle.sets.specs.Sets
 use Rattle.sets.specs.Sets.{paramsOf}
-use Rattle.sets.specs.Rooms.{Row}
-use Rattle.sets.specs.Laws.Rows
+use Rattle.sets.specs.Requires.{IsSet}
+use Rattle.sets.specs.Laws.Sets
 use Rattle.sponge.specs.Laws.Sponge.{length-sponge, sponge-below}
 use Rattle.sha3.specs.Hashes.{shake128, sha3-256}
 use Rattle.pke.specs.Pke.{decrypted}
@@ -24,15 +24,15 @@ module _ (set : ℕ) (known : Sets.known set ≡ true) (matrixSeed secretSeed z 
   abbrev p : Params
   p = paramsOf set
 
-  row : Row p
-  row = Rows.row set known
+  isSet : IsSet p
+  isSet = Sets.is-set set known
 
   module _ (within : NoiseWithin p matrixSeed secretSeed seed) where
     message-back : decrypted p (plainPart p (secretKey p matrixSeed secretSeed z)) (seedsCiphertext p matrixSeed secretSeed seed) ≡ messageOf seed
     unfolding seedsNoise encapsCiphertext publicKey plainSecret
     message-back =
-        rw (plain-in p row matrixSeed secretSeed z)
-        (decrypts p row (fits set known) (shake128 matrixSeed 32) secretSeed
+        rw (plain-in p isSet matrixSeed secretSeed z)
+        (decrypts p isSet (fits set known) (shake128 matrixSeed 32) secretSeed
         (coinsOf (messageOf seed) (sha3-256 (publicKey p matrixSeed secretSeed))) (messageOf seed) (length-sponge 136 6 seed 32)
         (sponge-below 136 6 seed 32) within)
 
@@ -43,8 +43,8 @@ module _ (set : ℕ) (known : Sets.known set ≡ true) (matrixSeed secretSeed z 
     secret-back =
         rw (
           message-back,
-          key-in p row matrixSeed secretSeed z,
-          hash-in p row matrixSeed secretSeed z,
+          key-in p isSet matrixSeed secretSeed z,
+          hash-in p isSet matrixSeed secretSeed z,
           same-refl (seedsCiphertext p matrixSeed secretSeed seed),
         )
 

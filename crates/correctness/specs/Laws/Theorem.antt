@@ -11,9 +11,9 @@ use Rattle.questions.specs.Laws.Answers.{_and_, accepted, none-no}
 use Rattle.sets.specs.declared.Params.{Params}
 use Rattle.sets.specs.Sets
 use Rattle.sets.specs.Sets.{paramsOf}
-use Rattle.sets.specs.Rooms.{Row}
-use Rattle.sets.specs.Laws.Rows
-use Rattle.answers.specs.Questions.{keygenQuestions, encapsQuestions, decapsQuestions, decryptQuestions}
+use Rattle.sets.specs.Requires.{IsSet}
+use Rattle.sets.specs.Laws.Sets
+use Rattle.scheme_questions.specs.Questions.{keygenQuestions, encapsQuestions, decapsQuestions, decryptQuestions}
 use Rattle.pke.specs.Promises.{Decrypted}
 use Rattle.pke.specs.Laws.Lengths.{length-encrypted}
 use Rattle.keys.specs.Keys.{publicKey, secretKey, plainPart}
@@ -58,8 +58,8 @@ module _
   known : Sets.known set ≡ true
   known = ready .oneSet .known
 
-  row : Row p
-  row = Rows.row set known
+  isSet : IsSet p
+  isSet = Sets.is-set set known
 
   -- the calls under the number that keys are generated under
   encapsulation : Encapsulated set pk' seed ct ss r2 ct' ss'
@@ -88,7 +88,7 @@ module _
   encaps-accepts =
       encapsulation .answers ∙
       none-no (encapsQuestions set (length pk') (length seed) (length ct) (length ss))
-      (known and eq-eqb _ 32 (ready .seedLong) and eq-eqb _ (p .pk) (ap length pk-is ∙ length-public p row matrixSeed secretSeed z)
+      (known and eq-eqb _ 32 (ready .seedLong) and eq-eqb _ (p .pk) (ap length pk-is ∙ length-public p isSet matrixSeed secretSeed z)
       and eq-eqb _ (p .ct) (ready .ctLong) and eq-eqb _ 32 (ready .ssLong) and tt)
 
   ct-is : ct' ≡ seedsCiphertext p matrixSeed secretSeed seed
@@ -96,21 +96,21 @@ module _
 
   ct-long : length ct' ≡ p .ct
   unfolding encapsCiphertext
-  ct-long = ap length ct-is ∙ length-encrypted p row _ _ _
+  ct-long = ap length ct-is ∙ length-encrypted p isSet _ _ _
 
   decrypt-accepts : r3 ≡ 0
   decrypt-accepts =
       decryption .answers ∙
       none-no (decryptQuestions set (length (plainPart p sk')) (length ct') (length message))
       (known
-      and eq-eqb _ (416 * p .l) (ap (λ (k : List ℕ). length (plainPart p k)) sk-is ∙ length-plainPart p row matrixSeed secretSeed z)
+      and eq-eqb _ (416 * p .l) (ap (λ (k : List ℕ). length (plainPart p k)) sk-is ∙ length-plainPart p isSet matrixSeed secretSeed z)
       and eq-eqb _ (p .ct) ct-long and eq-eqb _ 32 (ready .messageLong) and tt)
 
   decaps-accepts : r4 ≡ 0
   decaps-accepts =
       decapsulation .answers ∙
       none-no (decapsQuestions set (length sk') (length ct') (length secret))
-      (known and eq-eqb _ (p .sk) (ap length sk-is ∙ length-secretKey p row matrixSeed secretSeed z (ready .zLong))
+      (known and eq-eqb _ (p .sk) (ap length sk-is ∙ length-secretKey p isSet matrixSeed secretSeed z (ready .zLong))
       and eq-eqb _ (p .ct) ct-long and eq-eqb _ 32 (ready .secretLong) and tt)
 
   -- no call refuses, whatever the seeds hold

@@ -34,8 +34,8 @@ module _ (c : tie.Else2 Inv-loop μ-loop) where
       let found = c .before .before .before .before .find .ensures .0 in
       some-byte _ (l .at) found (l .inv .1 .1 .1) (c .before .before .piece-of .ensures) (c .if2 .left)
 
-  room : c .before .before .before .before .before .loop .count < length (c .before .before .before .before .before .loop .list)
-  room = omega (arith, on)
+  fits : c .before .before .before .before .before .loop .count < length (c .before .before .before .before .before .loop .list)
+  fits = omega (arith, on)
 
 pub signed-of-spec : {M : Type 1} → statement M
 signed-of-spec =
@@ -58,7 +58,7 @@ signed-of-spec =
     let found = c .before .before .before .before .find .ensures .0 in
     bad-read (some (c .before .before .before .before .before .before))
     (bad-piece _ (l .at) found (l .inv .1 .1 .1) (c .before .before .piece-of .ensures) (c .if2 .taken)))
-    (λ c. room (c .before))
+    (λ c. fits (c .before))
     (λ c. search needs)
     (λ c. search needs)
     (λ c.
@@ -67,7 +67,7 @@ signed-of-spec =
     let found = p .before .before .before .before .find .ensures .0 in
     let same = toZ-ofZ {w = w8} (record { sfits = c .before .before .before .struct-told .given .0 .1 }) in
     all-read (some (p .before .before .before .before .before .before))
-    (last-piece _ (l .at) found (l .inv .1 .1 .1) (p .before .before .piece-of .ensures) (p .if2 .left) (room p) same
+    (last-piece _ (l .at) found (l .inv .1 .1 .1) (p .before .before .piece-of .ensures) (p .if2 .left) (fits p) same
     (⊎-elim (λ w. inl (w .0 .taken, w .1)) (λ w. inr (w .0 .left, w .1)) (c .before .if3 .came)) (c .if4 .taken)))
     (λ c. search needs)
     (λ c. search needs)
@@ -81,7 +81,7 @@ signed-of-spec =
         omega (arith, on p),
         (
           simp length-set (l .inv .1 .1 .0),
-          next-piece _ (l .at) found (l .inv .1 .1 .1) (p .before .before .piece-of .ensures) (p .if2 .left) (room p) same
+          next-piece _ (l .at) found (l .inv .1 .1 .1) (p .before .before .piece-of .ensures) (p .if2 .left) (fits p) same
               (⊎-elim (λ w. inl (w .0 .taken, w .1)) (λ w. inr (w .0 .left, w .1)) (c .before .if3 .came)) (omega arith),
         ),
       ),

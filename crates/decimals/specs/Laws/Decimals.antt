@@ -10,7 +10,7 @@ use lib.Dec.{ltb}
 use lib.ListN.{length, getD, drop, length-append, drop-of-length-le}
 use borrow.Author.Tests.{lt-ltb, le-ltb, le-leb, lt-leb}
 use Rattle.decimals.specs.Decimals.{every, isDigit, isDecimal, valueBehind, value, ReadDecimal, digit, digitsWithin, decimal}
-use Rattle.decimals.specs.Rooms.{Longer}
+use Rattle.decimals.specs.Ensures.{Longer}
 use Rattle.lists.specs.Laws.Booleans.{and-right, and-true, and-assoc}
 use Rattle.lists.specs.Laws.Lists.{drop-next}
 

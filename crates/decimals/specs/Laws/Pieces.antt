@@ -15,7 +15,7 @@ use Rattle.bytes.specs.Bytes.{indexOf, indexAfter, slice}
 use Rattle.decimals.specs.Decimals.{every, isDecimal, fault, ReadDecimal}
 use Rattle.decimals.specs.Signed.{minus, comma, inFront, pieces, isNone, piecesOf, isNegative, isFormed, numberOf, isSmall}
 use Rattle.decimals.specs.Signed.{numbersOf, faultOf, ReadList}
-use Rattle.decimals.specs.Rooms.{ReadPiece}
+use Rattle.decimals.specs.Ensures.{ReadPiece}
 use Rattle.lists.specs.Laws.Booleans.{and-left}
 
 -- ---- where the pieces part
@@ -171,13 +171,13 @@ module _ (word : List ℕ) (at : ℕ) {e : ℕ} (found : e ≡ at + indexOf comm
         state = rw (k .1, add-one n, take-suc-set list n y l, q, r .number (k .0)) (state-sound (both .1) (here .state));
       }
 
-  module _ {y : ℤ} {f′ : ℕ} (formed : fp ≡ 2 → ⊥) (room : n < length list) (same : y ≡ z)
+  module _ {y : ℤ} {f′ : ℕ} (formed : fp ≡ 2 → ⊥) (fits : n < length list) (same : y ≡ z)
       (kept : ((fp ≡ 0 → ⊥) × (f′ ≡ fp)) ⊎ ((fp ≡ 0) × (f′ ≡ f))) where
     pub next-piece : e < length word → Gathered (pieces word) (set list n y) (n + 1) f′ (pieces (drop (e + 1) word))
-    next-piece h = rw (next-pieces word at e found h) at (more formed room same kept)
+    next-piece h = rw (next-pieces word at e found h) at (more formed fits same kept)
 
     pub last-piece : e ≡ length word → Gathered (pieces word) (set list n y) (n + 1) f′ []
-    last-piece h = rw (no-pieces word at e found h) at (more formed room same kept)
+    last-piece h = rw (no-pieces word at e found h) at (more formed fits same kept)
 
 -- ---- the word
 

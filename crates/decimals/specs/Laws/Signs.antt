@@ -40,7 +40,7 @@ module _ (n : ℕ) (some : n ≡ 0 → ⊥) (within : n ≤ 128) where
 pub record Sized (z y : ℤ) : Type 0 where
   pub fits : SFits w8 y
   pub cast : T (nonNeg (held y)) × Fits w8 (natAbs (held y))
-  pub room : Fits w8 (natAbs (held y) + 1)
+  pub fits : Fits w8 (natAbs (held y) + 1)
   pub size : natAbs (held y) + 1 ≡ natAbs z
 
 sized : (n : ℕ) (y : ℤ) → n < 128 → y ≡ pos n → Sized (negsuc n) y
@@ -50,7 +50,7 @@ sized n y h e =
     record {
       fits = rw e fits;
       cast = rw same (tt, record { fits = omega arith });
-      room = rw same (record { fits = omega arith });
+      fits = rw same (record { fits = omega arith });
       size = rw same (omega arith);
     }
 

@@ -10,7 +10,7 @@ use mir.Syntax.{w8}
 use mir.Val.{SFits}
 use Rattle.lists.specs.Laws.Lists.{drop-next}
 use Rattle.decimals.specs.Signed.{minus, comma, numberText, furtherText, listText}
-use Rattle.decimals.specs.Rooms.{Appended}
+use Rattle.decimals.specs.Ensures.{Appended}
 use Rattle.decimals.specs.Laws.Decimals.{decimal-long}
 use Rattle.decimals.specs.Laws.Signs.{held}
 

@@ -5,7 +5,7 @@ use native.Mathlib.Omega.{arith}
 use lib.ListN.{length-take, length-drop}
 use Rattle.lists.specs.Lists.{from}
 use Rattle.algebra.specs.Ring.{poly}
-use Rattle.karatsuba.specs.Rooms.{foldRow}
+use Rattle.karatsuba.specs.Ensures.{foldRow}
 use Rattle.karatsuba.specs.Laws.Fold.{Written, written-none, written-more, written-all, lent}
 use Rattle.karatsuba.proofs.fold.Statement.{statement}
 use Rattle.karatsuba.proofs.fold.Tie as tie

@@ -3,9 +3,9 @@ use Prim.Native.Nat.{_≤_, _*_, _-_}
 use mathlib.Core.Path.{_≡_}
 use native.Mathlib.Nat.{mul-le-mul-left}
 use native.Mathlib.Omega.{arith}
-use Rattle.karatsuba.specs.Rooms.{foldRow}
-use Rattle.lines.specs.Rooms.{Put}
-use Rattle.lines.specs.Laws.Put.{put-none, put-to, put-all}
+use Rattle.karatsuba.specs.Ensures.{foldRow}
+use Rattle.karatsuba_base.specs.Ensures.{Put}
+use Rattle.karatsuba_base.specs.Laws.Put.{put-none, put-to, put-all}
 use Rattle.karatsuba.specs.Laws.Fold.{fold-next}
 use Rattle.karatsuba.proofs.fold_row.Statement.{statement}
 use Rattle.karatsuba.proofs.fold_row.Tie as tie

@@ -4,7 +4,7 @@ use mathlib.Core.Path.{refl}
 use native.Mathlib.Omega.{arith}
 use borrow.Author.Needs.{needs}
 use Rattle.lists.specs.Laws.Fill.{Filled, fill-none, fill-more, fill-all}
-use Rattle.karatsuba.specs.Rooms.{foldAt}
+use Rattle.karatsuba.specs.Ensures.{foldAt}
 use Rattle.karatsuba.specs.Laws.Fold.{fold-one}
 use Rattle.karatsuba.proofs.folded.Statement.{statement}
 use Rattle.karatsuba.proofs.folded.Tie as tie

@@ -4,7 +4,7 @@ use mathlib.Core.Path.{_≡_}
 use native.Mathlib.Nat.{mul-suc, mul-le-mul-left}
 use native.Mathlib.Omega.{arith}
 use lib.ListN.{length}
-use Rattle.karatsuba.specs.Rooms.{Laid, source}
+use Rattle.karatsuba.specs.Ensures.{Laid, source}
 use Rattle.karatsuba.specs.Laws.Lay.{lay-none, lay-more}
 use Rattle.karatsuba.proofs.lay.Statement.{statement}
 use Rattle.karatsuba.proofs.lay.Tie as tie

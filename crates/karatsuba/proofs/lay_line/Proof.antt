@@ -4,7 +4,7 @@ use mathlib.Core.List.{List}
 use mathlib.Core.Path.{_≡_, sym, ap}
 use native.Mathlib.Omega.{arith}
 use lib.ListN.{getD}
-use Rattle.karatsuba.specs.Rooms.{LaidLine, source}
+use Rattle.karatsuba.specs.Ensures.{LaidLine, source}
 use Rattle.karatsuba.specs.Laws.Lay.{laid-none, laid-more, row-line, source-last}
 use Rattle.karatsuba.proofs.lay_line.Statement.{statement}
 use Rattle.karatsuba.proofs.lay_line.Tie as tie

@@ -2,8 +2,8 @@
 use Prim.Native.Nat.{_≤_, _-_}
 use mathlib.Core.Path.{_≡_, refl}
 use native.Mathlib.Omega.{arith}
-use Rattle.karatsuba.specs.Rooms.{Line}
-use Rattle.lines.specs.Laws.Put.{zeros-at}
+use Rattle.karatsuba.specs.Ensures.{Line}
+use Rattle.karatsuba_base.specs.Laws.Put.{zeros-at}
 use Rattle.karatsuba.specs.Laws.Lay.{line-none, line-more}
 use Rattle.karatsuba.proofs.line.Statement.{statement}
 use Rattle.karatsuba.proofs.line.Tie as tie

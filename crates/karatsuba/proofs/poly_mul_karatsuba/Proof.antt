@@ -21,7 +21,7 @@ poly-mul-karatsuba-spec =
     let e = c .before .before .before .before .before .before .before .mul-answer .ensures in
     let z = c .before .before .before .before .before .before .if1 .left in
     let f = mul-factors (x .modulus) (x .a .now) (x .b .now) (x .product .now) e z in
-    record { most = omega arith; factors = omega (arith, f); factor = f .second; space = omega arith; room = omega (arith, f .room) })
+    record { most = omega arith; factors = omega (arith, f); factor = f .second; scratch = omega arith; fits = omega (arith, f .fits) })
     (λ c. search mul-fits)
     (λ c κs. search mul-modulus)
     (λ c. search needs)
@@ -34,4 +34,4 @@ poly-mul-karatsuba-spec =
     let x = o .before .before .before .before .before .args in
     let f = mul-factors (x .modulus) (x .a .now) (x .b .now) (x .product .now) e (o .if1 .left) in
     mul-done (x .modulus) (x .a .now) (x .b .now) (x .product .now) e (o .if1 .left)
-    (single (x .a .now) (x .b .now) (f .first) (rw (f .room) at (z .clear .ensures)) (r .rows-add .ensures)) (w .reduce .ensures)))
+    (single (x .a .now) (x .b .now) (f .first) (rw (f .fits) at (z .clear .ensures)) (r .rows-add .ensures)) (w .reduce .ensures)))

@@ -2,7 +2,7 @@
 use mathlib.Core.Path.{refl, _∙_}
 use native.Mathlib.Omega.{arith}
 use borrow.Author.Needs.{needs}
-use Rattle.karatsuba.specs.Laws.Product.{rows-room, rows-done}
+use Rattle.karatsuba.specs.Laws.Product.{rows-scratch, rows-done}
 use Rattle.karatsuba.proofs.rows_add.Statement.{statement}
 use Rattle.karatsuba.proofs.rows_add.Tie as tie
 
@@ -14,19 +14,19 @@ rows-add-spec =
     (λ c. omega (arith, c .before .before .before .before .pre .most))
     (λ c κs.
     let p = c .before .before .before .before .before .pre in
-    record { factors = p .factors; factor = p .factor; left = omega (arith, p .space) })
+    record { factors = p .factors; factor = p .factor; left = omega (arith, p .scratch) })
     (λ c. omega (arith, c .before .before .before .before .before .before .before .before .before .pre .most))
     (λ c. omega (arith, c .before .before .before .before .before .before .before .before .before .pre .most))
     (λ c κs.
     let l = c .before .before .before in
     let s = l .before .before .before .before .before .before in
     let x = s .args in
-    rows-room (x .rows) (x .a .now) (x .b .now) (s .pre) (l .lay .ensures) refl)
+    rows-scratch (x .rows) (x .a .now) (x .b .now) (s .pre) (l .lay .ensures) refl)
     (λ c κs.
     let h = c .before .before .before .before in
     let l = h .before .before .before .before in
     let p = l .before .before .before .before .before .before .pre in
-    (omega (arith, p .space, h .split .ensures .size, l .lay .ensures .size), p .room))
+    (omega (arith, p .scratch, h .split .ensures .size, l .lay .ensures .size), p .fits))
     (λ c.
     let h = c .before .before .before .before .before .before .before in
     h .split .ensures .size ∙ h .before .before .before .before .lay .ensures .size)

@@ -14,10 +14,11 @@ use Rattle.lists.specs.Laws.Lists.{from-at, length-from}
 use Rattle.algebra.specs.Integers.{modℤ}
 use Rattle.algebra.specs.Ring.{poly, blocks}
 use Rattle.algebra.specs.Laws.Residues.{mod-of, same-refl, same-trans, same-add, same-plus, same-minus}
-use Rattle.lines.specs.Rooms.{place, Put}
-use Rattle.karatsuba.specs.Rooms.{foldAt, foldRow}
-use Rattle.lines.specs.Laws.Put.{put-next, put-to}
-use Rattle.lines.specs.Laws.Places.{place-add, place-first}
+use Rattle.karatsuba_base.specs.Layout.{place}
+use Rattle.karatsuba_base.specs.Ensures.{Put}
+use Rattle.karatsuba.specs.Ensures.{foldAt, foldRow}
+use Rattle.karatsuba_base.specs.Laws.Put.{put-next, put-to}
+use Rattle.karatsuba_base.specs.Laws.Places.{place-add, place-first}
 
 -- one place: z + x - y
 pub fold-one : (x y z d : ℕ) {r : ℕ} → (d + y) % 65536 ≡ x → r ≡ (z + d) % 65536 → r ≡ modℤ (pos z +ℤ (pos x -ℤ pos y)) 65536

@@ -11,10 +11,11 @@ use lib.ListN.{length, getD, set, drop, length-set, List·getD-eq-default}
 use lib.Seq.{getD-take, getD-drop}
 use borrow.Author.Tests.{lt-ltb, le-ltb}
 use Rattle.algebra.specs.Ring.{poly}
-use Rattle.lines.specs.Rooms.{reads, place, operand, Blank, Put}
-use Rattle.karatsuba.specs.Rooms.{Line, LaidLine, Laid, source}
-use Rattle.lines.specs.Laws.Put.{here, else}
-use Rattle.lines.specs.Laws.Places.{place-is, operand-at, operand-past}
+use Rattle.karatsuba_base.specs.Layout.{reads, place, operand, Blank}
+use Rattle.karatsuba_base.specs.Ensures.{Put}
+use Rattle.karatsuba.specs.Ensures.{Line, LaidLine, Laid, source}
+use Rattle.karatsuba_base.specs.Laws.Put.{here, else}
+use Rattle.karatsuba_base.specs.Laws.Places.{place-is, operand-at, operand-past}
 
 module _ {f : List ℕ} {s : ℕ} where
   pub line-none : {r : List ℕ} → length r ≡ 24 → ((t : ℕ) → getD r t 0 ≡ 0) → Line f s 0 r

@@ -17,9 +17,11 @@ use Rattle.algebra.specs.Laws.Product.{coef-comm}
 use Rattle.algebra.specs.Laws.Vectors.{blocks-cong}
 use Rattle.algebra.specs.Laws.Halves.{split-conv}
 use Rattle.algebra.specs.Laws.Lines.{conv-same, coef-conv}
-use Rattle.lines.specs.Rooms.{reads, place, operand}
-use Rattle.halves.specs.Rooms.{Halved, SplitRoom}
-use Rattle.karatsuba.specs.Rooms.{foldRow, Laid, source, RowsRoom, rowsAdded}
+use Rattle.karatsuba_base.specs.Layout.{reads, place, operand}
+use Rattle.karatsuba_split.specs.Ensures.{Halved}
+use Rattle.karatsuba_split.specs.Requires.{SplitScratch}
+use Rattle.karatsuba.specs.Ensures.{foldRow, Laid, source, rowsAdded}
+use Rattle.karatsuba.specs.Requires.{RowsScratch}
 use Rattle.karatsuba.specs.Laws.Lay.{laid-blank, laid-operand, source-row, source-last}
 
 -- one row: p in its place, b behind the rows
@@ -42,17 +44,17 @@ module _ {rows x free i : ℕ} {w w′ : List ℕ} (p b : List ℕ) (lp : length
       long : (c : List ℕ) → length c ≡ 256 → length (nat c) ≤ 256
       long c l = omega (arith, length-map c pos)
 
-module _ (rows : ℕ) (a b : List ℕ) {work out : ℕ} (r : RowsRoom rows (length a) (length b) work out) {w w1 : List ℕ}
+module _ (rows : ℕ) (a b : List ℕ) {work out : ℕ} (r : RowsScratch rows (length a) (length b) work out) {w w1 : List ℕ}
     (l : Laid rows (source rows a b) 16 w w1) (size : length w ≡ work) where
-  pub rows-room : SplitRoom rows 16 0 (384 * (rows + 1)) (384 * (rows + 1) + 512 * rows) w1
-  rows-room = record {
+  pub rows-scratch : SplitScratch rows 16 0 (384 * (rows + 1)) (384 * (rows + 1) + 512 * rows) w1
+  rows-scratch = record {
     most = r .most;
     depth = 4;
     sized = refl;
     apart = inl (omega arith);
     operands = omega arith;
     product = omega arith;
-    left = omega (arith, r .space, l .size, size);
+    left = omega (arith, r .scratch, l .size, size);
     blank = laid-blank l;
   }
 

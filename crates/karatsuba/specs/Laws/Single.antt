@@ -14,7 +14,7 @@ use Rattle.algebra.specs.Laws.Reduced.{at-nat}
 use Rattle.questions.specs.Answers.{written}
 use Rattle.ring.specs.Products.{product}
 use Rattle.ring.specs.Promises.{Multiplied}
-use Rattle.karatsuba.specs.Rooms.{rowsAdded}
+use Rattle.karatsuba.specs.Ensures.{rowsAdded}
 
 abbrev none : List ℕ
 none = from 256 (λ (k : ℕ). 0)

@@ -11,7 +11,7 @@ encrypt-with-requires c κs =
     let message = c .before .before .before .before .before .before .before .before .before .before .before .before in
     let start = message .before .before .before .before .before .before .before .before .before .before in
     record {
-      room = record { row = start .pre .row; pkLong = search needs; messageLong = search needs; ctLong = start .pre .againLong };
+      fits = record { isSet = start .pre .isSet; pkLong = search needs; messageLong = search needs; ctLong = start .pre .againLong };
       secretLong = search needs;
     }
 

@@ -2,8 +2,8 @@
 use native.Mathlib.Omega.{arith}
 use borrow.Author.Needs.{needs}
 use Rattle.questions.specs.Laws.Answers.{wrote-none}
-use Rattle.sets.specs.Laws.Rows.{few-rows, few-bytes}
-use Rattle.kem.specs.Laws.Kem.{decaps-space, decaps-done}
+use Rattle.sets.specs.Laws.Sets.{few-polynomials, few-bytes}
+use Rattle.kem.specs.Laws.Kem.{decaps-scratch, decaps-done}
 use Rattle.kem.proofs.decaps.Statement.{statement}
 use Rattle.kem.proofs.decaps.Tie as tie
 
@@ -14,16 +14,16 @@ decaps-spec =
     (λ c κs. search needs)
     (λ c. search wrote-none)
     (λ c κs. search needs)
-    (λ c. omega (arith, few-rows))
+    (λ c. omega (arith, few-polynomials))
     (λ c. search needs)
     (λ c. search needs)
-    (λ c. omega (arith, few-rows))
+    (λ c. omega (arith, few-polynomials))
     (λ c. search needs)
     (λ c. search needs)
     (λ c. omega (arith, few-bytes))
     (λ c κs.
     let params = c .before .before .before .before in
-    decaps-space _ (params .set-params .ensures) (params .before .if1 .left) _ _ _ (params .before .before .decaps-answer .ensures)
+    decaps-scratch _ (params .set-params .ensures) (params .before .if1 .left) _ _ _ (params .before .before .decaps-answer .ensures)
     (search needs) (search needs))
     (λ c. search needs)
     (λ c. search decaps-done))

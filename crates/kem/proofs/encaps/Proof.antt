@@ -2,8 +2,8 @@
 use native.Mathlib.Omega.{arith}
 use borrow.Author.Needs.{needs}
 use Rattle.questions.specs.Laws.Answers.{refused}
-use Rattle.sets.specs.Laws.Rows.{few-rows}
-use Rattle.answers.specs.Laws.Rooms.{encaps-room}
+use Rattle.sets.specs.Laws.Sets.{few-polynomials}
+use Rattle.scheme_questions.specs.Laws.Lengths.{encaps-lengths}
 use Rattle.kem.specs.Laws.Kem.{encaps-done}
 use Rattle.kem.proofs.encaps.Statement.{statement}
 use Rattle.kem.proofs.encaps.Tie as tie
@@ -15,11 +15,11 @@ encaps-spec =
     (λ c κs. search needs)
     (λ c. search refused)
     (λ c κs. search needs)
-    (λ c. omega (arith, few-rows))
+    (λ c. omega (arith, few-polynomials))
     (λ c. search needs)
     (λ c. search needs)
-    (λ c. omega (arith, few-rows))
-    (λ c κs. record { room = search encaps-room; secretLong = search needs })
+    (λ c. omega (arith, few-polynomials))
+    (λ c κs. record { fits = search encaps-lengths; secretLong = search needs })
     (λ c. search needs)
     (λ c. search needs)
     (λ c. search encaps-done))

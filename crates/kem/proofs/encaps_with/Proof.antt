@@ -14,7 +14,7 @@ returns c =
     let kr = encrypted .before .before .before .before .before .before in
     let hash = kr .before .before .before in
     let start = hash .before .before .before .before .before .before .before in
-    encaps-steps _ _ _ _ (start .pre .room .ssLong) (hash .before .hash256 .ensures) (hash .hash2562 .ensures) (kr .key-and-coins .ensures)
+    encaps-steps _ _ _ _ (start .pre .fits .ssLong) (hash .before .hash256 .ensures) (hash .hash2562 .ensures) (kr .key-and-coins .ensures)
     (coins-part _ (kr .key-and-coins .ensures)) refl (encrypted .encrypt-with .ensures) (shared .secret-under .ensures)
     (last .copy-at .ensures)
 

@@ -9,8 +9,8 @@ use Rattle.lists.specs.Laws.Strings.{placed-whole}
 use Rattle.questions.specs.Answers.{earliest}
 use Rattle.sets.specs.declared.Params.{Params}
 use Rattle.sets.specs.Sets.{paramsOf}
-use Rattle.answers.specs.Questions.{encapsQuestions, decapsQuestions}
-use Rattle.answers.specs.Laws.Rooms.{decaps-room}
+use Rattle.scheme_questions.specs.Questions.{encapsQuestions, decapsQuestions}
+use Rattle.scheme_questions.specs.Laws.Lengths.{decaps-lengths}
 use Rattle.sponge.specs.Laws.Sponge.{length-sponge}
 use Rattle.sha3.specs.Hashes.{sha3-256, sha3-512}
 use Rattle.pke.specs.Pke.{encrypted, decrypted}
@@ -18,7 +18,8 @@ use Rattle.keys.specs.Keys.{plainPart, keyPart, hashPart, zPart}
 use Rattle.kdf.specs.Kdf.{secretUnder}
 use Rattle.kem.specs.Kem.{encapsCiphertext, encapsSecret, decapsSecret}
 use Rattle.kem.specs.Promises.{Encapsulated, Decapsulated}
-use Rattle.kem.specs.Rooms.{Encapsulation, MadeAgain, DecapsSpace}
+use Rattle.kem.specs.Ensures.{Encapsulation, MadeAgain}
+use Rattle.kem.specs.Requires.{DecapsScratch}
 
 -- a string of 32 bytes written over the whole of an output
 over : (h out : List ℕ) {out' : List ℕ} → length out ≡ 32 → length h ≡ 32 → out' ≡ placed 0 h out → out' ≡ h
@@ -59,14 +60,14 @@ module _ (set : ℕ) {r : ℕ} {p : Params} (is : p ≡ paramsOf set) (z : r ≡
       record { answers = sym z ∙ a; ciphertext = rw is at (e .ciphertext); sharedSecret = rw is at (e .sharedSecret) }
 
   -- the work of decapsulation has the lengths that it asks
-  pub decaps-space :
+  pub decaps-scratch :
       (sk ct ss : ℕ) {secret again : ℕ} → r ≡ earliest (decapsQuestions set sk ct ss) → secret ≡ 256 * p .l → again ≡ p .ct →
-      DecapsSpace p sk ct secret again ss
-  decaps-space sk ct ss a s n =
-      let room = decaps-room set is z sk ct ss a in
+      DecapsScratch p sk ct secret again ss
+  decaps-scratch sk ct ss a s n =
+      let lengths = decaps-lengths set is z sk ct ss a in
       record {
-        space = record { row = room .row; skLong = room .skLong ∙ room .row .sums .skIs; ctLong = room .ctLong; secretLong = s; againLong = n };
-        ssLong = room .ssLong;
+        scratch = record { isSet = lengths .isSet; skLong = lengths .skLong ∙ lengths .isSet .sums .skIs; ctLong = lengths .ctLong; secretLong = s; againLong = n };
+        ssLong = lengths .ssLong;
       }
 
   pub decaps-done :

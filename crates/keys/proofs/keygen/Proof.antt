@@ -2,8 +2,8 @@
 use native.Mathlib.Omega.{arith}
 use borrow.Author.Needs.{needs}
 use Rattle.questions.specs.Laws.Answers.{refused}
-use Rattle.sets.specs.Laws.Rows.{few-rows}
-use Rattle.answers.specs.Laws.Rooms.{keygen-room}
+use Rattle.sets.specs.Laws.Sets.{few-polynomials}
+use Rattle.scheme_questions.specs.Laws.Lengths.{keygen-lengths}
 use Rattle.keys.specs.Laws.Keys.{keygen-done}
 use Rattle.keys.proofs.keygen.Statement.{statement}
 use Rattle.keys.proofs.keygen.Tie as tie
@@ -15,11 +15,11 @@ keygen-spec =
     (λ c κs. search needs)
     (λ c. search refused)
     (λ c κs. search needs)
-    (λ c. omega (arith, few-rows))
+    (λ c. omega (arith, few-polynomials))
     (λ c. search needs)
     (λ c. search needs)
-    (λ c. omega (arith, few-rows))
-    (λ c κs. record { room = search keygen-room; secretLong = search needs })
+    (λ c. omega (arith, few-polynomials))
+    (λ c κs. record { fits = search keygen-lengths; secretLong = search needs })
     (λ c. search needs)
     (λ c. search needs)
     (λ c. search keygen-done))

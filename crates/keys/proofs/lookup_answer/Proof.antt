@@ -9,14 +9,14 @@ use Rattle.keys.specs.Keys.{lookupQuestions}
 use Rattle.keys.proofs.lookup_answer.Statement.{statement}
 use Rattle.keys.proofs.lookup_answer.Tie as tie
 
-abbrev row-of : tie.After-ask → tie.After-set-params
-row-of c = c .before .before .before
+abbrev params-of : tie.After-ask → tie.After-set-params
+params-of c = c .before .before .before
 
 returns : tie.Need-returns
 returns c =
-    let row = row-of (c .before) in
-    let a = row .before .args in
-    let is = row .set-params .ensures in
+    let params = params-of (c .before) in
+    let a = params .before .args in
+    let is = params .set-params .ensures in
     asked (lookupQuestions (a .set) (a .«secret-key»))
     (asks (made-of (λ (p : Params). ltb 0 (p .l)) is (c .ask2 .ensures) refl)
     (asks (made-of (λ (p : Params). eqb (a .«secret-key») (p .sk)) is (c .before .ask .ensures) refl) none))

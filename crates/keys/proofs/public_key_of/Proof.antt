@@ -7,7 +7,7 @@ use Rattle.questions.specs.Laws.Answers.{refused}
 use Rattle.sets.specs.declared.Params.{Params}
 use Rattle.questions.specs.Answers.{earliest}
 use Rattle.keys.specs.Keys.{lookupQuestions}
-use Rattle.keys.specs.Rooms.{Found}
+use Rattle.keys.specs.Requires.{Found}
 use Rattle.keys.specs.Laws.Keys.{found, lookup-part}
 use Rattle.keys.proofs.public_key_of.Statement.{statement}
 use Rattle.keys.proofs.public_key_of.Tie as tie

@@ -16,8 +16,8 @@ use Rattle.questions.specs.Answers.{earliest}
 use Rattle.questions.specs.Laws.Answers.{all-yes, accepted}
 use Rattle.sets.specs.declared.Params.{Params}
 use Rattle.sets.specs.Sets.{paramsOf}
-use Rattle.sets.specs.Laws.Rows.{row}
-use Rattle.answers.specs.Questions.{keygenQuestions}
+use Rattle.sets.specs.Laws.Sets.{is-set}
+use Rattle.scheme_questions.specs.Questions.{keygenQuestions}
 use Rattle.sponge.specs.Laws.Sponge.{length-sponge}
 use Rattle.sha3.specs.Hashes.{shake128, sha3-256}
 use Rattle.algebra.specs.Ring.{nat, residues}
@@ -25,11 +25,12 @@ use Rattle.algebra.specs.Laws.Reduced.{residues-below}
 use Rattle.packing.specs.Packing.{packed}
 use Rattle.packing.specs.Laws.Polynomials.{length-packed}
 use Rattle.sampling.specs.Sampling.{secret}
-use Rattle.exchange.specs.Exchange.{roundedVector}
-use Rattle.exchange.specs.Laws.Exchange.{vector-secret, length-packed-vector}
+use Rattle.lwr.specs.Lwr.{roundedVector}
+use Rattle.lwr.specs.Laws.Lwr.{vector-secret, length-packed-vector}
 use Rattle.keys.specs.Keys.{publicKey, plainSecret, secretKey, lookupQuestions, publicKeyOf}
 use Rattle.keys.specs.Promises.{Generated}
-use Rattle.keys.specs.Rooms.{KeyPair, Found}
+use Rattle.keys.specs.Ensures.{KeyPair}
+use Rattle.keys.specs.Requires.{Found}
 
 -- what stands in an output that is written part by part
 pub public-steps :
@@ -83,7 +84,7 @@ keygen-done set matrixSeed secretSeed z pk sk is n a k =
 pub found : (set sk : ℕ) → earliest (lookupQuestions set sk) ≡ 0 → Found (paramsOf set) sk
 found set sk e =
     let y = all-yes (lookupQuestions set sk) refl refl e in
-    let w = row set (y .0) in
+    let w = is-set set (y .0) in
     record { few = w .few; pkIs = w .pkIs; skIs = eqb-true sk (paramsOf set .sk) (y .1 .0) ∙ w .sums .skIs }
 
 pub lookup-part :

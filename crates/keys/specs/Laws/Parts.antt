@@ -7,7 +7,7 @@ use native.Mathlib.Omega.{arith}
 use lib.ListN.{length, drop, length-append, length-map}
 use lib.Seq.{take-at, drop-at, drop-drop}
 use Rattle.sets.specs.declared.Params.{Params}
-use Rattle.sets.specs.Rooms.{Row}
+use Rattle.sets.specs.Requires.{IsSet}
 use Rattle.algebra.specs.Integers.{modℤ}
 use Rattle.algebra.specs.Ring.{residues}
 use Rattle.packing.specs.Laws.Polynomials.{length-packed}
@@ -15,10 +15,10 @@ use Rattle.sponge.specs.Laws.Sponge.{length-sponge}
 use Rattle.sha3.specs.Hashes.{shake128, sha3-256}
 use Rattle.sampling.specs.Sampling.{secret}
 use Rattle.sampling.specs.Laws.Sampling.{length-secret}
-use Rattle.exchange.specs.Laws.Exchange.{length-packed-vector}
+use Rattle.lwr.specs.Laws.Lwr.{length-packed-vector}
 use Rattle.keys.specs.Keys.{publicKey, plainSecret, secretKey, plainPart, keyPart, hashPart}
 
-module _ (p : Params) (row : Row p) (matrixSeed secretSeed z : List ℕ) where
+module _ (p : Params) (isSet : IsSet p) (matrixSeed secretSeed z : List ℕ) where
   abbrev pk : List ℕ
   pk = publicKey p matrixSeed secretSeed
 
@@ -33,13 +33,13 @@ module _ (p : Params) (row : Row p) (matrixSeed secretSeed z : List ℕ) where
         length-packed-vector true (p .l) (shake128 matrixSeed 32) (secret (p .l) (p .mu) secretSeed),
         length-sponge,
       )
-      (omega (arith, row .pkIs))
+      (omega (arith, isSet .pkIs))
 
   -- s modulo 8192 is as long as s
   pub length-residues : length (residues 8192 (secret (p .l) (p .mu) secretSeed)) ≡ 256 * p .l
   length-residues =
       length-map (secret (p .l) (p .mu) secretSeed) (λ z. modℤ z 8192)
-      ∙ length-secret (p .l) (p .mu) secretSeed (record { least = row .muSome; most = row .muFew; even = row .muEven })
+      ∙ length-secret (p .l) (p .mu) secretSeed (record { least = isSet .muSome; most = isSet .muFew; even = isSet .muEven })
 
   length-plain : length (plainSecret p secretSeed) ≡ 416 * p .l
   unfolding plainSecret
@@ -47,7 +47,7 @@ module _ (p : Params) (row : Row p) (matrixSeed secretSeed z : List ℕ) where
 
   pub length-secretKey : length z ≡ 32 → length sk ≡ p .sk
   unfolding secretKey
-  length-secretKey long = simp (length-append, length-plain, length-public, length-sponge, long) (omega (arith, row .sums .skIs))
+  length-secretKey long = simp (length-append, length-plain, length-public, length-sponge, long) (omega (arith, isSet .sums .skIs))
 
   pub plain-in : plainPart p sk ≡ plainSecret p secretSeed
   unfolding secretKey

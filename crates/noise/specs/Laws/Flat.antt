@@ -9,7 +9,7 @@ use Rattle.algebra.specs.Ring.{inner, nat, residues, poly, blocks}
 use Rattle.algebra.specs.Laws.Product.{length-inner, inner-cong}
 use Rattle.algebra.specs.Laws.Vectors.{map-blocks, poly-blocks}
 use Rattle.rounding.specs.Rounding.{round}
-use Rattle.vectors.specs.Vectors.{entry, side, innerMod, matrixRow, matrixVector}
+use Rattle.algebra.specs.Vectors.{entry, side, innerMod, matrixRow, matrixVector}
 use Rattle.noise.specs.Noise.{times, rounded, v, v′}
 
 module _ (l : ℕ) (M : ℕ → ℕ → List ℕ) (s : List ℤ) where

@@ -13,7 +13,7 @@ use Rattle.lists.specs.Laws.Lists.{from-at, length-from}
 use Rattle.algebra.specs.Ring.{at}
 use Rattle.algebra.specs.Laws.Product.{length-inner}
 use Rattle.sets.specs.Sets.{paramsOf, known, added}
-use Rattle.sets.specs.Laws.Rows.{row}
+use Rattle.sets.specs.Laws.Sets.{is-set}
 use Rattle.reconciliation.specs.Reconciliation.{dataOf, bitOf, reconData, recovered}
 use Rattle.reconciliation.specs.Laws.Reconciliation.{length-recovered}
 use Rattle.noise.specs.Noise.{bound, Within, Fits, Carries, offset, Near, v, v′, noise}
@@ -22,7 +22,7 @@ use Rattle.noise.specs.Laws.Bit.{bit-exact, near-within}
 
 -- the numbers of every set fit
 pub fits : (set : ℕ) → known set ≡ true → Fits (paramsOf set .g) (paramsOf set .margin) (added (paramsOf set))
-fits set k = let p = row set k .sums in record { some = p .stepSome; even = p .stepEven; bounds = omega arith; adds = p .addedIs }
+fits set k = let p = is-set set k .sums in record { some = p .stepSome; even = p .stepEven; bounds = omega arith; adds = p .addedIs }
 
 -- the bounds of LightSaber, Saber and FireSaber
 pub bounds : (bound (paramsOf 1 .margin) ≡ 1536) × (bound (paramsOf 2 .margin) ≡ 1792) × (bound (paramsOf 3 .margin) ≡ 1984)

@@ -13,7 +13,7 @@ use Rattle.questions.specs.Answers.{Question, earliest, allBelow}
 use Rattle.questions.specs.Laws.Answers.{asked, all-yes, made-of, stops, goes-on}
 use Rattle.questions.specs.Laws.Answers.Asked.{asks, none}
 use Rattle.packing.specs.Packing.{packQuestions}
-use Rattle.packing.specs.Laws.Room.{Width, width-bounds}
+use Rattle.packing.specs.Laws.Lengths.{Width, width-bounds}
 use Rattle.packing.proofs.pack_answer.Statement.{statement}
 use Rattle.packing.proofs.pack_answer.Tie as tie
 

@@ -11,9 +11,9 @@ use Rattle.packing.proofs.pack_at.Tie as tie
 
 pack-into-requires : tie.Need-pack-into-requires
 pack-into-requires c κs =
-    let room = c .before .before .before .pre in
-    polynomials-fill _ 1 _ _ (room .least) (room .widest) (omega (arith, room .polynomial))
-    (simp (length-take, length-drop) (omega (arith, room .room)))
+    let lengths = c .before .before .before .pre in
+    polynomials-fill _ 1 _ _ (lengths .least) (lengths .widest) (omega (arith, lengths .polynomial))
+    (simp (length-take, length-drop) (omega (arith, lengths .fits)))
 
 pub pack-at-spec : {M : Type 1} → statement M
 pack-at-spec =
@@ -30,7 +30,7 @@ pack-at-spec =
     let filled = c .before .before in
     let start = filled .before .before .before .before in
     let a = start .args in
-    let room = start .pre in
+    let lengths = start .pre in
     rw (filled .pack-into .ensures)
     (put-placed (a .place) (32 * a .width) (a .out .now) _
-    (size (a .width) (a .place) (a .coefficients .now) (a .out .now) (room .least) (room .polynomial) (room .room)))))
+    (size (a .width) (a .place) (a .coefficients .now) (a .out .now) (lengths .least) (lengths .polynomial) (lengths .fits)))))

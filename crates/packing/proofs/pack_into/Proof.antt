@@ -19,7 +19,7 @@ use Rattle.packing.proofs.pack_into.Tie as tie
 pub record Turn (width : ℕ) (coefficients old bytes : List ℕ) (acc held i j : ℕ) : Type 0 where
   pub size : length bytes ≡ length old
   pub within : i ≤ length coefficients
-  pub room : held ≤ 31
+  pub few : held ≤ 31
   pub fours : j % 4 ≡ 0
   pub cut : Cutting width 8 coefficients bytes acc held i j
 
@@ -31,7 +31,7 @@ abbrev μ-loop : tie.MeasureT-loop
 
 append-bits-requires : tie.Need-append-bits-requires Inv-loop μ-loop
 append-bits-requires c κs = record {
-  room = search needs;
+  few = search needs;
   small = c .before .before .before .loop .inv .cut .small;
   fits = omega (arith, c .before .shared-slice-known2 .given (c .before .before .before .loop .i), c .wide .ensures);
 }
@@ -74,7 +74,7 @@ loop-again c =
     record {
       size = s .kept .0 ∙ c .before .before .before .before .before .before .before .before .before .loop .inv .size;
       within = search needs;
-      room = search needs;
+      few = search needs;
       fours = search needs;
       cut =
           write (more (c .before .before .before .before .before)) 4 32 refl (omega arith) f (s .kept .0)
@@ -85,7 +85,7 @@ loop-again-2 : tie.Need-loop-again-2 Inv-loop μ-loop
 loop-again-2 c = record {
   size = c .before .before .before .before .before .loop .inv .size;
   within = search needs;
-  room = search needs;
+  few = search needs;
   fours = search needs;
   cut = more (c .before);
 }
@@ -108,7 +108,7 @@ pack-into-spec =
     (tie.spec
     Inv-loop
     μ-loop
-    (λ c. record { size = refl; within = search needs; room = search needs; fours = refl; cut = start (c .before .before .pre .fills) })
+    (λ c. record { size = refl; within = search needs; few = search needs; fours = refl; cut = start (c .before .before .pre .fills) })
     (λ c. search needs)
     (λ c. search needs)
     (λ c κs. search needs)

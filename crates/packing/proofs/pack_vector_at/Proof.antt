@@ -26,17 +26,17 @@ next : (c : tie.In-loop Inv-loop μ-loop) →
 next c =
     let s = c .before .before .before .before in
     let i = c .before .loop .i in
-    omega (arith, s .pre .room, mul-suc (32 * s .args .width) i, mul-le-mul-left (32 * s .args .width) (c .loop-test .taken))
+    omega (arith, s .pre .fits, mul-suc (32 * s .args .width) i, mul-le-mul-left (32 * s .args .width) (c .loop-test .taken))
 
 pack-at-requires : tie.Need-pack-at-requires Inv-loop μ-loop
 pack-at-requires c κs =
     let k = c .before .before in
-    let room = k .before .before .before .before .pre in
+    let lengths = k .before .before .before .before .pre in
     record {
-      least = room .least;
-      widest = room .most;
-      polynomial = simp (length-take, length-drop) (omega (arith, room .polynomials, k .loop-test .taken));
-      room = omega (arith, next k, k .before .loop .inv .1);
+      least = lengths .least;
+      widest = lengths .most;
+      polynomial = simp (length-take, length-drop) (omega (arith, lengths .polynomials, k .loop-test .taken));
+      fits = omega (arith, next k, k .before .loop .inv .1);
     }
 
 loop-again : tie.Need-loop-again Inv-loop μ-loop

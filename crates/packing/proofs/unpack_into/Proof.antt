@@ -67,7 +67,7 @@ unpack-into-spec =
     μ-loop
     (λ c. record { size = refl; fours = refl; cut = start (sym (c .before .before .pre .fills)) })
     (λ c κs. four c)
-    (λ c κs. record { room = search needs; small = c .before .before .before .loop .inv .cut .small; fits = c .load32 .ensures .1 })
+    (λ c κs. record { few = search needs; small = c .before .before .before .loop .inv .cut .small; fits = c .load32 .ensures .1 })
     (λ c. search needs)
     (λ c. omega (arith, four (c .before .before)))
     (λ c κs. search needs)

@@ -12,7 +12,7 @@ use Rattle.lists.specs.Numbers.{number, Below}
 use Rattle.lists.specs.Laws.Numbers.{length-digits, below-take, digits-below, digits-number, digits-split, number-digits, number-lt, number-append}
 use Rattle.lists.specs.Laws.Numbers.{number-split, pow-mul}
 use Rattle.packing.specs.Packing.{recut, packed, unpacked, bit, streamBit}
-use Rattle.packing.specs.Rooms.{Fills}
+use Rattle.packing.specs.Requires.{Fills}
 
 -- each number cut has b bits
 pub recut-below : (a b : ℕ) (xs : List ℕ) → Below (2 ^ b) (recut a b xs)

@@ -12,12 +12,12 @@ use Rattle.lists.specs.Strings.{placed}
 use Rattle.lists.specs.Laws.Numbers.{below-take}
 use Rattle.lists.specs.Laws.Strings.{placed-there, placed-outside, placed-more}
 use Rattle.packing.specs.Packing.{recut, packed, unpacked}
-use Rattle.packing.specs.Rooms.{PlaceRoom}
+use Rattle.packing.specs.Requires.{PlaceLengths}
 use Rattle.packing.specs.Laws.Packing.{recut-append}
 use Rattle.packing.specs.Laws.Polynomials.{length-packed, whole-back}
 
 -- A6: "for a general width and any place with 32 × width bytes left". One polynomial x, at a place of `out`
-module _ (w place : ℕ) (x out : List ℕ) (least : 1 ≤ w) (polynomial : length x ≡ 256) (room : place + 32 * w ≤ length out) where
+module _ (w place : ℕ) (x out : List ℕ) (least : 1 ≤ w) (polynomial : length x ≡ 256) (fits : place + 32 * w ≤ length out) where
   abbrev new : List ℕ
   new = placed place (packed w x) out
 
@@ -40,8 +40,8 @@ module _ (w place : ℕ) (x out : List ℕ) (least : 1 ≤ w) (polynomial : leng
   unpacked-there below = rw there (whole-back w 1 least x (omega arith) below)
 
   -- what `pack_at` asks is no more than a width of at most 16 besides
-  pub within : w ≤ 16 → PlaceRoom w (length x) place (length out)
-  within widest = record { least = least; widest = widest; polynomial = polynomial; room = room }
+  pub within : w ≤ 16 → PlaceLengths w (length x) place (length out)
+  within widest = record { least = least; widest = widest; polynomial = polynomial; fits = fits }
 
 -- b packed right behind the l polynomials a: as all of them packed
 pub packed-more :

@@ -2,8 +2,8 @@
 use native.Mathlib.Omega.{arith}
 use borrow.Author.Needs.{needs}
 use Rattle.questions.specs.Laws.Answers.{wrote-none}
-use Rattle.sets.specs.Laws.Rows.{few-rows}
-use Rattle.answers.specs.Laws.Rooms.{decrypt-room}
+use Rattle.sets.specs.Laws.Sets.{few-polynomials}
+use Rattle.scheme_questions.specs.Laws.Lengths.{decrypt-lengths}
 use Rattle.pke.specs.Laws.Pke.{decrypt-done}
 use Rattle.pke.proofs.decrypt.Statement.{statement}
 use Rattle.pke.proofs.decrypt.Tie as tie
@@ -15,10 +15,10 @@ decrypt-spec =
     (λ c κs. search needs)
     (λ c. search wrote-none)
     (λ c κs. search needs)
-    (λ c. omega (arith, few-rows))
+    (λ c. omega (arith, few-polynomials))
     (λ c. search needs)
     (λ c. search needs)
-    (λ c. omega (arith, few-rows))
-    (λ c κs. record { room = search decrypt-room; secretLong = search needs })
+    (λ c. omega (arith, few-polynomials))
+    (λ c κs. record { fits = search decrypt-lengths; secretLong = search needs })
     (λ c. search needs)
     (λ c. search decrypt-done))

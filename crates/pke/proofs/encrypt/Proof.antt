@@ -2,8 +2,8 @@
 use native.Mathlib.Omega.{arith}
 use borrow.Author.Needs.{needs}
 use Rattle.questions.specs.Laws.Answers.{wrote-none}
-use Rattle.sets.specs.Laws.Rows.{few-rows}
-use Rattle.answers.specs.Laws.Rooms.{encrypt-room}
+use Rattle.sets.specs.Laws.Sets.{few-polynomials}
+use Rattle.scheme_questions.specs.Laws.Lengths.{encrypt-lengths}
 use Rattle.pke.specs.Laws.Pke.{encrypt-done}
 use Rattle.pke.proofs.encrypt.Statement.{statement}
 use Rattle.pke.proofs.encrypt.Tie as tie
@@ -15,10 +15,10 @@ encrypt-spec =
     (λ c κs. search needs)
     (λ c. search wrote-none)
     (λ c κs. search needs)
-    (λ c. omega (arith, few-rows))
+    (λ c. omega (arith, few-polynomials))
     (λ c. search needs)
     (λ c. search needs)
-    (λ c. omega (arith, few-rows))
-    (λ c κs. record { room = search encrypt-room; secretLong = search needs })
+    (λ c. omega (arith, few-polynomials))
+    (λ c κs. record { fits = search encrypt-lengths; secretLong = search needs })
     (λ c. search needs)
     (λ c. search encrypt-done))

@@ -13,13 +13,13 @@ returns c =
     let after-secret = after-both .before .before .before .before .before .before .before in
     let start = after-secret .before .before .before .before .before .before .before .before in
     let a = start .args in
-    let room = start .pre .room in
+    let lengths = start .pre .fits in
     let both = after-both .both-into .ensures in
     let pk = a .«public-key» .now in
     let e = 320 * a .p .l in
-    encrypt-steps (a .p) pk (a .message .now) (a .seed .now) (a .ciphertext .now) (room .row) (room .ctLong)
+    encrypt-steps (a .p) pk (a .message .now) (a .seed .now) (a .ciphertext .now) (lengths .isSet) (lengths .ctLong)
     (after-secret .secret-residues-into .ensures) (both .0) (both .1) (after-data .data-at .ensures) (first-part e pk)
-    (last-part e _ pk (room .pkLong))
+    (last-part e _ pk (lengths .pkLong))
 
 pub encrypt-with-spec : {M : Type 1} → statement M
 encrypt-with-spec =

@@ -10,36 +10,36 @@ use Rattle.lists.specs.Laws.Strings.{placed-two, placed-whole}
 use Rattle.questions.specs.Answers.{earliest}
 use Rattle.sets.specs.declared.Params.{Params}
 use Rattle.sets.specs.Sets.{paramsOf, added}
-use Rattle.sets.specs.Rooms.{Row}
-use Rattle.answers.specs.Questions.{encryptQuestions, decryptQuestions}
+use Rattle.sets.specs.Requires.{IsSet}
+use Rattle.scheme_questions.specs.Questions.{encryptQuestions, decryptQuestions}
 use Rattle.algebra.specs.Ring.{nat, residues}
 use Rattle.packing.specs.Packing.{packed, unpacked}
 use Rattle.packing.specs.Laws.Polynomials.{length-packed}
-use Rattle.vectors.specs.Vectors.{innerMod}
-use Rattle.vectors.specs.Laws.Vectors.{inner-secret}
+use Rattle.algebra.specs.Vectors.{innerMod}
+use Rattle.algebra.specs.Laws.Matrices.{inner-secret}
 use Rattle.sampling.specs.Sampling.{secret}
 use Rattle.reconciliation.specs.Reconciliation.{maskedPoly, reconData, recovered}
-use Rattle.exchange.specs.Exchange.{roundedVector}
-use Rattle.exchange.specs.Laws.Exchange.{vector-secret, length-packed-vector}
+use Rattle.lwr.specs.Lwr.{roundedVector}
+use Rattle.lwr.specs.Laws.Lwr.{vector-secret, length-packed-vector}
 use Rattle.pke.specs.Pke.{dataPoly, encrypted, decrypted}
 use Rattle.pke.specs.Promises.{Encrypted, Decrypted}
 use Rattle.pke.specs.Laws.Lengths.{length-dataPart}
 
 pub encrypt-steps :
-    (p : Params) (pk message seed old : List ℕ) {first last s v front ct : List ℕ} → Row p → length old ≡ p .ct →
+    (p : Params) (pk message seed old : List ℕ) {first last s v front ct : List ℕ} → IsSet p → length old ≡ p .ct →
     s ≡ residues 8192 (secret (p .l) (p .mu) seed) → front ≡ placed 0 (packed 10 (roundedVector false (p .l) last (nat s))) old →
     v ≡ innerMod 1024 (p .l) (unpacked 10 first) (nat s) →
     ct ≡ placed (320 * p .l) (packed (p .bits) (reconData (p .g) (maskedPoly v (unpacked 1 message)))) front →
     first ≡ take (320 * p .l) pk → last ≡ drop (320 * p .l) pk → ct ≡ encrypted p pk message seed
 unfolding encrypted dataPoly
-encrypt-steps p pk message seed old row long s b v n f l =
+encrypt-steps p pk message seed old isSet long s b v n f l =
     let first = take (320 * p .l) pk in
     let last = drop (320 * p .l) pk in
     let s' = secret (p .l) (p .mu) seed in
     let y = packed (p .bits) (dataPoly p (unpacked 10 first) s' message) in
-    let ly : length y ≡ 32 * p .bits = length-dataPart p row (unpacked 10 first) s' message in
+    let ly : length y ≡ 32 * p .bits = length-dataPart p isSet (unpacked 10 first) s' message in
     placed-two (320 * p .l) (packed 10 (roundedVector false (p .l) last s')) y old (length-packed-vector false (p .l) last s')
-    (omega (arith, ly, long, row .ctIs)) (b ∙ rw (s, l, vector-secret)) (n ∙ rw (v, s, f, inner-secret))
+    (omega (arith, ly, long, isSet .ctIs)) (b ∙ rw (s, l, vector-secret)) (n ∙ rw (v, s, f, inner-secret))
 
 pub message-steps :
     (p : Params) (v numbers old : List ℕ) {n bits message : List ℕ} → length bits ≡ 256 → length old ≡ 32 → n ≡ unpacked (p .bits) numbers →

@@ -9,7 +9,7 @@ use lib.ListN.{take, drop}
 use borrow.Author.Tests.{ltb-true}
 use Rattle.lists.specs.Laws.Booleans.{and-left, and-right}
 use Rattle.questions.specs.Answers.{ask, Question, earliest, written, Wrote}
-use Rattle.questions.specs.Rooms.{Asks}
+use Rattle.questions.specs.Ensures.{Asks}
 
 -- each question is answered yes
 abbrev pub AllYes : List Question → Type 0

@@ -1,7 +1,7 @@
 -- `reconciliation::recon_data` meets its contract: an answer of 0 gives the inner form what it asks.
 use borrow.Author.Needs.{needs}
 use Rattle.questions.specs.Laws.Answers.{wrote-none}
-use Rattle.reconciliation.specs.Laws.Room.{recon-room, recon-done}
+use Rattle.reconciliation.specs.Laws.Lengths.{recon-lengths, recon-done}
 use Rattle.reconciliation.proofs.recon_data.Statement.{statement}
 use Rattle.reconciliation.proofs.recon_data.Tie as tie
 
@@ -12,6 +12,6 @@ recon-data-spec =
     (λ c κs. search needs)
     (λ c. search wrote-none)
     (λ c κs. search needs)
-    (λ c κs. search recon-room)
+    (λ c κs. search recon-lengths)
     (λ c. search needs)
     (λ c. search recon-done))

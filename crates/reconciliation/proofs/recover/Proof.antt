@@ -1,7 +1,7 @@
 -- `reconciliation::recover` meets its contract: an answer of 0 gives the inner form what it asks.
 use borrow.Author.Needs.{needs}
 use Rattle.questions.specs.Laws.Answers.{wrote-none}
-use Rattle.reconciliation.specs.Laws.Room.{recover-room, recover-done}
+use Rattle.reconciliation.specs.Laws.Lengths.{recover-lengths, recover-done}
 use Rattle.reconciliation.proofs.recover.Statement.{statement}
 use Rattle.reconciliation.proofs.recover.Tie as tie
 
@@ -12,6 +12,6 @@ recover-spec =
     (λ c κs. search needs)
     (λ c. search wrote-none)
     (λ c κs. search needs)
-    (λ c κs. search recover-room)
+    (λ c κs. search recover-lengths)
     (λ c. search needs)
     (λ c. search recover-done))

@@ -11,7 +11,7 @@ use Rattle.questions.specs.Laws.Answers.{asked, made-of}
 use Rattle.questions.specs.Laws.Answers.Asked.{asks, none}
 use Rattle.sets.specs.declared.Params.{Params}
 use Rattle.sets.specs.Sets.{paramsOf}
-use Rattle.sets.specs.Laws.Rows.{few-bytes}
+use Rattle.sets.specs.Laws.Sets.{few-bytes}
 use Rattle.records.specs.Records.{doorOrZero, readQuestions}
 use Rattle.records.specs.Laws.Doors.{upper-half}
 use Rattle.records.specs.Laws.Fields.{head-few}
@@ -28,21 +28,21 @@ returns c =
     let map = c4 .before .before .before .before in
     let bit = map .before .before in
     let head = head-of bit in
-    let row = head .before in
-    let a = row .before .args in
+    let params = head .before in
+    let a = params .before .args in
     let door = doorOrZero (a .door) in
     asked (readQuestions (a .map) door (a .set) (a .«record») (a .ciphertext))
     (asks (c .ask8 .ensures)
     (asks (made-of (λ (b : Bool). b) (map .is-map .ensures) (c .before .ask7 .ensures) refl)
     (asks (made-of (λ (h : ℕ). leb h (a .«record»)) (head .head-length .ensures) (c .before .before .ask6 .ensures) refl)
     (asks (c .before .before .before .ask5 .ensures)
-    (asks (made-of (λ (p : Params). ltb 0 (p .l)) (row .set-params .ensures) (c4 .ask4 .ensures) refl)
+    (asks (made-of (λ (p : Params). ltb 0 (p .l)) (params .set-params .ensures) (c4 .ask4 .ensures) refl)
     (asks (made-of (λ (h : ℕ). eqb (a .«record») (h + paramsOf (a .set) .ct)) (head .head-length .ensures)
-    (made-of (λ (p : Params). eqb (a .«record») (head .head-length .result + p .ct)) (row .set-params .ensures) (c4 .before .ask3 .ensures) refl) refl)
+    (made-of (λ (p : Params). eqb (a .«record») (head .head-length .result + p .ct)) (params .set-params .ensures) (c4 .before .ask3 .ensures) refl) refl)
     (asks (made-of (λ (b : Bool). b) (upper-half (digit 2 (a .map) 4) door (mod-lt (a .map / 2 ^ 4) (omega arith)))
     (made-of (λ (b : ℕ). leb b (door / 65536)) (bit .bit .ensures)
     (made-of (λ (d : ℕ). leb (bit .bit .result) (d / 65536)) (map .before .door-number .ensures) (c4 .before .before .ask2 .ensures) refl) refl) refl)
-    (asks (made-of (λ (p : Params). eqb (a .ciphertext) (p .ct)) (row .set-params .ensures) (c4 .before .before .before .ask .ensures) refl)
+    (asks (made-of (λ (p : Params). eqb (a .ciphertext) (p .ct)) (params .set-params .ensures) (c4 .before .before .before .ask .ensures) refl)
     none))))))))
 
 pub read-answer-spec : {M : Type 1} → statement M

@@ -3,22 +3,22 @@ use native.Mathlib.Omega.{arith}
 use borrow.Author.Needs.{needs}
 use lib.ListN.{length}
 use Rattle.records.specs.Records.{doorOrZero}
-use Rattle.records.specs.Rooms.{Readable}
-use Rattle.records.specs.Laws.Calls.{read-refused, read-room, read-fits, read-done}
+use Rattle.records.specs.Ensures.{Readable}
+use Rattle.records.specs.Laws.Calls.{read-refused, read-lengths, read-fits, read-done}
 use Rattle.records.proofs.read_record.Statement.{statement}
 use Rattle.records.proofs.read_record.Tie as tie
 
 -- no question refuses
-room :
+lengths :
     (c : tie.Else1) →
     let head = c .before .before in
     let start = head .before .before .before .before in
     let h = head .head-in .result in
     Readable (head .before .map-in .result) (doorOrZero (h .door)) (h .set) (length (start .args .«record» .now)) (length (start .args .ciphertext .now))
-room c =
+lengths c =
     let head = c .before .before in
     let a = head .before .before .before .before .args in
-    read-room (a .«record» .now) (a .ciphertext .now) (head .before .map-in .ensures) (head .head-in .ensures) (c .before .read-answer .ensures) (c .if1 .left)
+    read-lengths (a .«record» .now) (a .ciphertext .now) (head .before .map-in .ensures) (head .head-in .ensures) (c .before .read-answer .ensures) (c .if1 .left)
 
 -- a refusal has its number and no values
 returns : tie.Need-returns
@@ -46,8 +46,8 @@ read-record-spec =
     (λ c κs. search needs)
     returns
     (λ c κs. search needs)
-    (λ c. omega (arith, room (c .before)))
-    (λ c. omega (arith, room (c .before)))
+    (λ c. omega (arith, lengths (c .before)))
+    (λ c. omega (arith, lengths (c .before)))
     (λ c. search needs)
     (λ c κs. search read-fits)
     (λ c. search needs)

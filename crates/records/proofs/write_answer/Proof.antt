@@ -8,7 +8,7 @@ use Rattle.questions.specs.Laws.Answers.{asked, made-of}
 use Rattle.questions.specs.Laws.Answers.Asked.{asks, none}
 use Rattle.sets.specs.declared.Params.{Params}
 use Rattle.sets.specs.Sets.{paramsOf}
-use Rattle.sets.specs.Laws.Rows.{few-bytes}
+use Rattle.sets.specs.Laws.Sets.{few-bytes}
 use Rattle.records.specs.Records.{writeQuestions}
 use Rattle.records.specs.Laws.Fields.{head-few}
 use Rattle.records.proofs.write_answer.Statement.{statement}
@@ -20,13 +20,13 @@ head-of c = c .before .before .before .before
 returns : tie.Need-returns
 returns c =
     let head = head-of (c .before .before) in
-    let row = head .before in
-    let a = row .before .args in
+    let params = head .before in
+    let a = params .before .args in
     asked (writeQuestions (a .map) (a .set) (a .ciphertext) (a .«record»))
-    (asks (made-of (λ (p : Params). ltb 0 (p .l)) (row .set-params .ensures) (c .ask3 .ensures) refl)
-    (asks (made-of (λ (p : Params). eqb (a .ciphertext) (p .ct)) (row .set-params .ensures) (c .before .ask2 .ensures) refl)
+    (asks (made-of (λ (p : Params). ltb 0 (p .l)) (params .set-params .ensures) (c .ask3 .ensures) refl)
+    (asks (made-of (λ (p : Params). eqb (a .ciphertext) (p .ct)) (params .set-params .ensures) (c .before .ask2 .ensures) refl)
     (asks (made-of (λ (h : ℕ). eqb (a .«record») (h + paramsOf (a .set) .ct)) (head .head-length .ensures)
-    (made-of (λ (p : Params). eqb (a .«record») (head .head-length .result + p .ct)) (row .set-params .ensures) (c .before .before .ask .ensures) refl)
+    (made-of (λ (p : Params). eqb (a .«record») (head .head-length .result + p .ct)) (params .set-params .ensures) (c .before .before .ask .ensures) refl)
     refl)
     none)))
 

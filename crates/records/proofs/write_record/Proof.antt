@@ -1,6 +1,6 @@
 -- `records::write_record` meets its contract: an answer of 0 gives the lengths, and any other leaves the record alone.
 use borrow.Author.Needs.{needs}
-use Rattle.records.specs.Laws.Calls.{write-refused, write-room, write-done}
+use Rattle.records.specs.Laws.Calls.{write-refused, write-lengths, write-done}
 use Rattle.records.proofs.write_record.Statement.{statement}
 use Rattle.records.proofs.write_record.Tie as tie
 
@@ -15,6 +15,6 @@ write-record-spec =
     (λ c κs. search needs)
     (λ c. search write-refused)
     (λ c κs. search needs)
-    (λ c κs. search write-room)
+    (λ c κs. search write-lengths)
     (λ c. search needs)
     (λ c. search write-done))

@@ -15,7 +15,7 @@ use Rattle.lists.specs.Laws.Booleans.{and-left, and-right, and-false}
 use Rattle.questions.specs.Answers.{ask, earliest}
 use Rattle.questions.specs.Laws.Answers.{all-yes}
 use Rattle.sets.specs.Sets.{paramsOf, known}
-use Rattle.sets.specs.Laws.Rows.{unknown-from}
+use Rattle.sets.specs.Laws.Sets.{unknown-from}
 use Rattle.records.specs.declared.Door.{Door}
 use Rattle.records.specs.declared.Door.the-variants as door
 use Rattle.records.specs.declared.Time.{Time}

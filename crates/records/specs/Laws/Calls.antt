@@ -25,7 +25,8 @@ use Rattle.records.specs.declared.Part.{Part}
 use Rattle.records.specs.Records.{Field, fields, headLength, doorNumber, timeNumber, shortDoor, wideDoor, numbersOf, bitsOf, laid}
 use Rattle.records.specs.Records.{mapOf, headed, recordOf, writeQuestions, headIn, readQuestions, doorOrZero, readAnswer, answerOf, valuesOf, Fits}
 use Rattle.records.specs.Promises.{Recorded, Retrieved}
-use Rattle.records.specs.Rooms.{Lays, WriteRoom, Readable}
+use Rattle.records.specs.Ensures.{Lays, Readable}
+use Rattle.records.specs.Requires.{WriteLengths}
 use Rattle.records.specs.Laws.Fields.{length-laid}
 use Rattle.records.specs.Laws.Records.{mapped, readable, read-written, written-read, write-accepts}
 
@@ -39,13 +40,13 @@ module _ (s old : List ℕ) {m r : ℕ} {h : Head} (im : m ≡ getD s 0 0) (ih :
   pub read-refused : (r ≡ 0 → ⊥) → Retrieved s old (Refused r) old
   read-refused n = record { answers = answer-is; gives = refused r _ none n; writes = refused r _ old n }
 
-  pub read-room : r ≡ 0 → Readable m (doorOrZero (h .door)) (h .set) (length s) (length old)
-  read-room z = readable m (doorOrZero (h .door)) (h .set) (length s) (length old) a z
+  pub read-lengths : r ≡ 0 → Readable m (doorOrZero (h .door)) (h .set) (length s) (length old)
+  read-lengths z = readable m (doorOrZero (h .door)) (h .set) (length s) (length old) a z
 
   module _ {e : ℕ} (z : r ≡ 0) (ie : e ≡ headLength m) where
     -- the rest of the record is as long as the output
     rest-long : length (drop e s) ≡ length old
-    rest-long = let w = read-room z in rw (length-drop, ie) (omega arith)
+    rest-long = let w = read-lengths z in rw (length-drop, ie) (omega arith)
 
     part-is : take (length s - e) (drop e s) ≡ drop e s
     part-is = last-part e (length s) s refl
@@ -110,8 +111,8 @@ module _ (d : Door) (t : Time) (set : ℕ) {p q : Part}
     pub write-refused : (r ≡ 0 → ⊥) → Recorded d t set c old r old
     write-refused n = wrote-none answered n
 
-    pub write-room : r ≡ 0 → WriteRoom (p .size) (q .size) (length c) (length old)
-    write-room z =
+    pub write-lengths : r ≡ 0 → WriteLengths (p .size) (q .size) (length c) (length old)
+    write-lengths z =
         let y = all-yes (writeQuestions (mapOf h) set (length c) (length old)) refl answered z in
         let ct = eqb-true (length c) (paramsOf set .ct) (y .1 .0) in
         let size = eqb-true (length old) (headLength (mapOf h) + paramsOf set .ct) (y .1 .1 .0) in

@@ -18,8 +18,8 @@ use Rattle.lists.specs.Laws.Booleans.{and-left, and-right}
 use Rattle.questions.specs.Answers.{earliest}
 use Rattle.questions.specs.Laws.Answers.{all-yes, none-no, _and_}
 use Rattle.sets.specs.Sets.{paramsOf, known}
-use Rattle.sets.specs.Rooms.{Numbered}
-use Rattle.sets.specs.Laws.Rows.{numbered, own-number}
+use Rattle.sets.specs.Requires.{Numbered}
+use Rattle.sets.specs.Laws.Sets.{numbered, own-number}
 use Rattle.records.specs.declared.Door.{Door}
 use Rattle.records.specs.declared.Door.the-variants as door
 use Rattle.records.specs.declared.Time.{Time}
@@ -29,7 +29,7 @@ use Rattle.records.specs.Records.{Field, fields, stands, taken, takenBy,
 use Rattle.records.specs.Records.{shortDoor, wideDoor, numbersOf, bitOf, bitsOf, laid, mapOf, headed, recordOf, writeQuestions}
 use Rattle.records.specs.Records.{mapIn, numbersIn, doorOf, timeOf, headOf, headIn, ciphertextIn, isMap, readQuestions, doorOrZero}
 use Rattle.records.specs.Records.{readAnswer, Fits, Holds}
-use Rattle.records.specs.Rooms.{Readable}
+use Rattle.records.specs.Ensures.{Readable}
 use Rattle.records.specs.Laws.Fields.{Agree, numbers-laid, length-laid, laid-numbers}
 use Rattle.records.specs.Laws.Doors.{by-width, door-whole, doors-fit, doors-again}
 

@@ -20,7 +20,8 @@ use Rattle.records.specs.declared.Time.{Time}
 use Rattle.records.specs.declared.Part.{Part}
 use Rattle.records.specs.Records.{fields, stands, given, wideFrom, shortDoor, wideDoor, bitsOf, laid, numbersIn}
 use Rattle.records.specs.Records.{doorOf, timeOf, headIn, isMap}
-use Rattle.records.specs.Rooms.{Lays, WriteRoom}
+use Rattle.records.specs.Ensures.{Lays}
+use Rattle.records.specs.Requires.{WriteLengths}
 use Rattle.records.specs.Laws.Doors.{is-short, is-wide}
 
 -- a number whose bit b stands, and one whose bit does not
@@ -131,7 +132,7 @@ module _ {o : Option ℕ} where
 
 -- what stands in a record that is written from the front
 pub record-steps :
-    (map door doorSize time timeSize set : ℕ) (c old : List ℕ) {s0 s1 s2 s3 s : List ℕ} → WriteRoom doorSize timeSize (length c) (length old) →
+    (map door doorSize time timeSize set : ℕ) (c old : List ℕ) {s0 s1 s2 s3 s : List ℕ} → WriteLengths doorSize timeSize (length c) (length old) →
     s0 ≡ placed 0 (digits 256 1 map) old → s1 ≡ placed 1 (digits 256 doorSize door) s0 →
     s2 ≡ placed (1 + doorSize) (digits 256 timeSize time) s1 → s3 ≡ placed (1 + doorSize + timeSize) (digits 256 1 set) s2 →
     s ≡ placed (1 + doorSize + timeSize + 1) c s3 →

@@ -18,7 +18,7 @@ use Rattle.algebra.specs.Ring.{mul, nat, residues}
 use Rattle.algebra.specs.Laws.Reduced.{residues-part}
 use Rattle.ring.specs.Products.{product, isModulus, mulQuestions}
 use Rattle.ring.specs.Promises.{Multiplied}
-use Rattle.ring.specs.Rooms.{Factors}
+use Rattle.ring.specs.Requires.{Factors}
 
 pub moduli : (m : ℕ) → isModulus m ≡ true → (m ≡ 1024) ⊎ (m ≡ 8192)
 moduli m h = ⊎-elim (λ p. inl (eqb-true m 1024 p)) (λ p. inr (eqb-true m 8192 p)) (or-cases (eqb m 1024) (eqb m 8192) h)
@@ -39,7 +39,7 @@ module _ (m : ℕ) (a b out : List ℕ) {r : ℕ} (e : r ≡ earliest (mulQuesti
   pub mul-factors : Factors (length a) (length b) (length out)
   mul-factors =
       let y = all-yes (mulQuestions m a b (length out)) refl e z in
-      record { first = eqb-true _ _ (y .1 .0); second = eqb-true _ _ (y .1 .1 .0); room = eqb-true _ _ (y .1 .1 .1 .1 .1 .0) }
+      record { first = eqb-true _ _ (y .1 .0); second = eqb-true _ _ (y .1 .1 .0); fits = eqb-true _ _ (y .1 .1 .1 .1 .1 .0) }
 
   pub mul-fits : Fits w16 m
   mul-fits = ⊎-elim (λ h. omega arith) (λ h. omega arith) (moduli m mul-modulus)

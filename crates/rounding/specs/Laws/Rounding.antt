@@ -15,5 +15,5 @@ unfolding allBelow
 round-below [] = refl
 round-below (y ∷ x) = rw (lt-ltb (round y) 1024 (omega arith)) (round-below x)
 
-pub round-room : (x out : List ℕ) {r : ℕ} → r ≡ earliest (roundQuestions x (length out)) → r ≡ 0 → length out ≡ length x
-round-room x out e z = let y = all-yes (roundQuestions x (length out)) refl e z in omega (arith, eqb-true)
+pub round-lengths : (x out : List ℕ) {r : ℕ} → r ≡ earliest (roundQuestions x (length out)) → r ≡ 0 → length out ≡ length x
+round-lengths x out e z = let y = all-yes (roundQuestions x (length out)) refl e z in omega (arith, eqb-true)

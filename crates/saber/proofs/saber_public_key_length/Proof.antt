@@ -8,10 +8,10 @@ use Rattle.saber.proofs.saber_public_key_length.Tie as tie
 
 returns : tie.Need-returns
 returns c =
-    let row = c .before .before in
-    let a = row .before .args in
-    found (a .set) (a .«secret-key») (row .set-params .result .pk) (c .before .lookup-answer .ensures) (c .or-zero .ensures)
-    (ap (λ (p : Params). p .pk) (row .set-params .ensures))
+    let params = c .before .before in
+    let a = params .before .args in
+    found (a .set) (a .«secret-key») (params .set-params .result .pk) (c .before .lookup-answer .ensures) (c .or-zero .ensures)
+    (ap (λ (p : Params). p .pk) (params .set-params .ensures))
 
 pub saber-public-key-length-spec : {M : Type 1} → statement M
 saber-public-key-length-spec =

@@ -4,17 +4,17 @@ use mathlib.Core.Path.{ap}
 use native.Mathlib.Omega.{arith}
 use borrow.Author.Needs.{needs}
 use Rattle.sets.specs.declared.Params.{Params}
-use Rattle.sets.specs.Laws.Rows.{few-rows}
+use Rattle.sets.specs.Laws.Sets.{few-polynomials}
 use Rattle.saber.specs.Laws.Lookup.{found}
 use Rattle.saber.proofs.saber_public_key_offset.Statement.{statement}
 use Rattle.saber.proofs.saber_public_key_offset.Tie as tie
 
 returns : tie.Need-returns
 returns c =
-    let row = c .before .before .before in
-    let a = row .before .args in
-    found (a .set) (a .«secret-key») (416 * row .set-params .result .l) (c .before .before .lookup-answer .ensures) (c .or-zero .ensures)
-    (ap (λ (p : Params). 416 * p .l) (row .set-params .ensures))
+    let params = c .before .before .before in
+    let a = params .before .args in
+    found (a .set) (a .«secret-key») (416 * params .set-params .result .l) (c .before .before .lookup-answer .ensures) (c .or-zero .ensures)
+    (ap (λ (p : Params). 416 * p .l) (params .set-params .ensures))
 
 pub saber-public-key-offset-spec : {M : Type 1} → statement M
 saber-public-key-offset-spec =
@@ -22,6 +22,6 @@ saber-public-key-offset-spec =
     (tie.spec
     (λ c κs. search needs)
     (λ c κs. search needs)
-    (λ c. omega (arith, few-rows _ (c .before .before .set-params .ensures)))
+    (λ c. omega (arith, few-polynomials _ (c .before .before .set-params .ensures)))
     (λ c κs. search needs)
     returns)

@@ -1,5 +1,5 @@
 -- `sabercall::main` is safe and ends: the state stays good from turn to turn, and the turns are counted down.
-use Rattle.sabercall.specs.Rooms.{Good}
+use Rattle.sabercall.specs.Requires.{Good}
 use borrow.Author.Needs.{needs}
 use Rattle.sabercall.proofs.main.Statement.{statement}
 use Rattle.sabercall.proofs.main.Tie as tie

@@ -4,9 +4,9 @@ use mathlib.Core.List.{map}
 use mathlib.Core.Path.{sym, ap, _∙_}
 use borrow.Author.Needs.{needs}
 use lib.ListN.{length}
-use Rattle.weights.specs.Weights.{weighed}
+use Rattle.binomial.specs.Binomial.{weighed}
 use Rattle.sampling.specs.Laws.Halves.{secret-weighed}
-use Rattle.sampling.specs.Laws.Room.{count-cut}
+use Rattle.sampling.specs.Laws.Lengths.{count-cut}
 use Rattle.sampling.proofs.count_with.Statement.{statement}
 use Rattle.sampling.proofs.count_with.Tie as tie
 
@@ -21,7 +21,7 @@ count-with-spec =
     (λ c.
     let cut = c .before .before .before .before .before .before in
     let start = cut .before .before .before .before in
-    let room = start .pre .room in
+    let lengths = start .pre .fits in
     let mu = start .args .mu in
     c .before .weigh-numbers .ensures ∙ ap (map (weighed (mu / 2))) (cut .unpack-into .ensures)
-    ∙ sym (secret-weighed mu (length (start .args .output .now)) (start .args .bytes .now) (room .cut .least) (room .even) (sym (room .cut .fills)))))
+    ∙ sym (secret-weighed mu (length (start .args .output .now)) (start .args .bytes .now) (lengths .cut .least) (lengths .even) (sym (lengths .cut .fills)))))

@@ -1,7 +1,7 @@
 -- `sampling::gen_matrix` meets its contract: an answer of 0 gives the inner form what it asks.
 use borrow.Author.Needs.{needs}
 use Rattle.questions.specs.Laws.Answers.{wrote-none}
-use Rattle.sampling.specs.Laws.Room.{matrix-room, matrix-done}
+use Rattle.sampling.specs.Laws.Lengths.{matrix-lengths, matrix-done}
 use Rattle.sampling.proofs.gen_matrix.Statement.{statement}
 use Rattle.sampling.proofs.gen_matrix.Tie as tie
 
@@ -12,6 +12,6 @@ gen-matrix-spec =
     (λ c κs. search needs)
     (λ c. search wrote-none)
     (λ c κs. search needs)
-    (λ c κs. search matrix-room)
+    (λ c κs. search matrix-lengths)
     (λ c. search needs)
     (λ c. search matrix-done))

@@ -8,19 +8,19 @@ use lib.Dec.{eqb, ltb}
 use Rattle.questions.specs.Laws.Answers.{asked, made-of}
 use Rattle.questions.specs.Laws.Answers.Asked.{asks, none}
 use Rattle.sets.specs.declared.Params.{Params}
-use Rattle.sets.specs.Laws.Rows.{few-rows}
+use Rattle.sets.specs.Laws.Sets.{few-polynomials}
 use Rattle.sampling.specs.Sampling.{genMatrixQuestions}
 use Rattle.sampling.proofs.gen_matrix_answer.Statement.{statement}
 use Rattle.sampling.proofs.gen_matrix_answer.Tie as tie
 
-abbrev row-of : tie.After-ask → tie.After-set-params
-row-of c = c .before .before .before .before
+abbrev params-of : tie.After-ask → tie.After-set-params
+params-of c = c .before .before .before .before
 
 returns : tie.Need-returns
 returns c =
-    let row = row-of (c .before .before) in
-    let a = row .before .args in
-    let is = row .set-params .ensures in
+    let params = params-of (c .before .before) in
+    let a = params .before .args in
+    let is = params .set-params .ensures in
     asked (genMatrixQuestions (a .set) (a .seed) (a .matrix))
     (asks (made-of (λ (p : Params). ltb 0 (p .l)) is (c .ask3 .ensures) refl)
     (asks (c .before .ask2 .ensures)
@@ -31,8 +31,8 @@ gen-matrix-answer-spec =
     tie.close
     (tie.spec
     (λ c κs. search needs)
-    (λ c. omega (arith, few-rows))
-    (λ c. let few = few-rows _ (c .before .before .before .set-params .ensures) in omega (arith, mul-le-mul few few))
+    (λ c. omega (arith, few-polynomials))
+    (λ c. let few = few-polynomials _ (c .before .before .before .set-params .ensures) in omega (arith, mul-le-mul few few))
     (λ c κs. search needs)
     (λ c κs. search needs)
     (λ c κs. search needs)

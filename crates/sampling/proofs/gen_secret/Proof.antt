@@ -1,7 +1,7 @@
 -- `sampling::gen_secret` meets its contract: an answer of 0 gives the inner form what it asks.
 use borrow.Author.Needs.{needs}
 use Rattle.questions.specs.Laws.Answers.{wrote-none}
-use Rattle.sampling.specs.Laws.Room.{secret-room, secret-done}
+use Rattle.sampling.specs.Laws.Lengths.{secret-lengths, secret-done}
 use Rattle.sampling.proofs.gen_secret.Statement.{statement}
 use Rattle.sampling.proofs.gen_secret.Tie as tie
 
@@ -12,6 +12,6 @@ gen-secret-spec =
     (λ c κs. search needs)
     (λ c. search wrote-none)
     (λ c κs. search needs)
-    (λ c κs. search secret-room)
+    (λ c κs. search secret-lengths)
     (λ c. search needs)
     (λ c. search secret-done))

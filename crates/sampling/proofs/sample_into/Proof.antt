@@ -2,7 +2,7 @@
 use mathlib.Core.Path.{sym, _∙_}
 use borrow.Author.Needs.{needs}
 use Rattle.sampling.specs.Laws.Halves.{secret-bytes}
-use Rattle.sampling.specs.Laws.Room.{byte-places}
+use Rattle.sampling.specs.Laws.Lengths.{byte-places}
 use Rattle.sampling.proofs.sample_into.Statement.{statement}
 use Rattle.sampling.proofs.sample_into.Tie as tie
 

@@ -10,12 +10,12 @@ use Rattle.lists.specs.Numbers.{Below}
 use Rattle.packing.specs.Packing.{unpacked}
 use Rattle.packing.specs.Laws.Packing.{recut-length, recut-below}
 use Rattle.algebra.specs.Ring.{at}
-use Rattle.weights.specs.Weights.{weighed}
-use Rattle.weights.specs.Laws.Weights.{sub-bound}
+use Rattle.binomial.specs.Binomial.{weighed}
+use Rattle.binomial.specs.Laws.Binomial.{sub-bound}
 use Rattle.sponge.specs.Laws.Sponge.{length-sponge}
 use Rattle.sha3.specs.Hashes.{shake128}
 use Rattle.sampling.specs.Sampling.{matrix, differences, secretOf, secret}
-use Rattle.sampling.specs.Rooms.{Pieces}
+use Rattle.sampling.specs.Requires.{Pieces}
 use Rattle.sampling.specs.Laws.Halves.{secret-weighed}
 
 -- the matrix: 256 l l numbers, each below 8192

@@ -1,3 +1,0 @@
-pub mod Questions
-pub mod Rooms
-pub mod Laws

@@ -1,0 +1,180 @@
+// The library's calls by name: what each takes, and the dispatch to it.
+
+use call_arguments::Numbers;
+use call_words::Shape;
+
+// The calls that answer with a number.
+pub enum Call {
+    Keygen,
+    Encaps,
+    Decaps,
+    Encrypt,
+    Decrypt,
+    GenMatrix,
+    PolyMul,
+    PolyMulKaratsuba,
+    Round,
+    ReconData,
+    Recover,
+    Pack,
+    Unpack,
+    Shake128,
+    Sha3256,
+    Sha3512,
+    WriteRecord,
+}
+
+// What can be asked for: a call, whose reply is its answer and every output; a secret, whose output is a signed list; the lookup, whose reply
+// is the part that it hands back; or the reading of a record, whose reply has the numbers of its entry between the answer and the output.
+pub enum Request {
+    Call(Call),
+    GenSecret,
+    PublicKeyOf,
+    ReadRecord,
+}
+
+// A request, and what it takes.
+pub struct Row {
+    pub request: Request,
+    pub shape: Shape,
+}
+
+pub enum Found {
+    Row(Row),
+    Nothing,
+}
+
+// A row where its name is the one that is asked for, and else what was found before.
+fn select(found: Found, asked: &[u8], name: &[u8], row: Row) -> Found {
+    if check::same(asked, name) {
+        return Found::Row(row);
+    }
+    found
+}
+
+// The row of a call without optional numbers.
+fn entry(
+    found: Found,
+    asked: &[u8],
+    name: &[u8],
+    call: Call,
+    numbers: usize,
+    strings: usize,
+    lists: usize,
+    byte_outputs: usize,
+    list_outputs: usize,
+) -> Found {
+    let shape = Shape {
+        optionals: 0,
+        numbers,
+        strings,
+        lists,
+        byte_outputs,
+        list_outputs,
+        signed_outputs: 0,
+    };
+    let request = Request::Call(call);
+    select(found, asked, name, Row { request, shape })
+}
+
+// The row of a request without lists.
+fn byte_entry(
+    found: Found,
+    asked: &[u8],
+    name: &[u8],
+    request: Request,
+    optionals: usize,
+    numbers: usize,
+    strings: usize,
+    byte_outputs: usize,
+) -> Found {
+    let shape = Shape {
+        optionals,
+        numbers,
+        strings,
+        lists: 0,
+        byte_outputs,
+        list_outputs: 0,
+        signed_outputs: 0,
+    };
+    select(found, asked, name, Row { request, shape })
+}
+
+// The table.
+pub fn row_of(name: &[u8]) -> Found {
+    let f = Found::Nothing;
+    let secret = Shape {
+        optionals: 0,
+        numbers: 1,
+        strings: 1,
+        lists: 0,
+        byte_outputs: 0,
+        list_outputs: 0,
+        signed_outputs: 1,
+    };
+    let row = Row {
+        request: Request::GenSecret,
+        shape: secret,
+    };
+    let f = select(f, name, b"gen_secret", row);
+    // name, optional numbers, numbers, byte strings, byte outputs
+    let f = byte_entry(f, name, b"public_key_of", Request::PublicKeyOf, 0, 1, 1, 0);
+    let f = byte_entry(f, name, b"read_record", Request::ReadRecord, 0, 0, 1, 1);
+    let write = Request::Call(Call::WriteRecord);
+    let f = byte_entry(f, name, b"write_record", write, 2, 1, 1, 1);
+    // name, numbers, byte strings, lists, byte outputs, list outputs
+    let f = entry(f, name, b"keygen", Call::Keygen, 1, 3, 0, 2, 0);
+    let f = entry(f, name, b"encaps", Call::Encaps, 1, 2, 0, 2, 0);
+    let f = entry(f, name, b"decaps", Call::Decaps, 1, 2, 0, 1, 0);
+    let f = entry(f, name, b"encrypt", Call::Encrypt, 1, 3, 0, 1, 0);
+    let f = entry(f, name, b"decrypt", Call::Decrypt, 1, 2, 0, 1, 0);
+    let f = entry(f, name, b"gen_matrix", Call::GenMatrix, 1, 1, 0, 0, 1);
+    let f = entry(f, name, b"poly_mul", Call::PolyMul, 1, 0, 2, 0, 1);
+    let karatsuba = Call::PolyMulKaratsuba;
+    let f = entry(f, name, b"poly_mul_karatsuba", karatsuba, 1, 0, 2, 0, 1);
+    let f = entry(f, name, b"round", Call::Round, 0, 0, 1, 0, 1);
+    let f = entry(f, name, b"recon_data", Call::ReconData, 1, 0, 1, 0, 1);
+    let f = entry(f, name, b"recover", Call::Recover, 1, 0, 2, 0, 1);
+    let f = entry(f, name, b"pack", Call::Pack, 1, 0, 1, 1, 0);
+    let f = entry(f, name, b"unpack", Call::Unpack, 1, 1, 0, 0, 1);
+    let f = entry(f, name, b"shake128", Call::Shake128, 0, 1, 0, 1, 0);
+    let f = entry(f, name, b"sha3_256", Call::Sha3256, 0, 1, 0, 1, 0);
+    entry(f, name, b"sha3_512", Call::Sha3512, 0, 1, 0, 1, 0)
+}
+
+// Makes a call. An argument that the call does not have is 0 or empty.
+pub fn make_call(
+    call: Call,
+    numbers: Numbers,
+    first: &[u8],
+    second: &[u8],
+    third: &[u8],
+    left: &[u16],
+    right: &[u16],
+    output: &mut [u8],
+    extra: &mut [u8],
+    result: &mut [u16],
+) -> u8 {
+    let door = numbers.door;
+    let time = numbers.time;
+    let number = numbers.number;
+    match call {
+        Call::Keygen => keys::keygen(number, first, second, third, output, extra),
+        Call::Encaps => kem::encaps(number, first, second, output, extra),
+        Call::Decaps => kem::decaps(number, first, second, output),
+        Call::Encrypt => pke::encrypt(number, first, second, third, output),
+        Call::Decrypt => pke::decrypt(number, first, second, output),
+        Call::GenMatrix => sampling::gen_matrix(number, first, result),
+        Call::PolyMul => ring::poly_mul(number, left, right, result),
+        Call::PolyMulKaratsuba => karatsuba::poly_mul_karatsuba(number, left, right, result),
+        Call::Round => rounding::round(left, result),
+        Call::ReconData => reconciliation::recon_data(number, left, result),
+        Call::Recover => reconciliation::recover(number, left, right, result),
+        Call::Pack => packing::pack(number, left, output),
+        Call::Unpack => packing::unpack(number, first, result),
+        Call::Shake128 => sha3::shake128(first, output),
+        Call::Sha3256 => sha3::sha3_256(first, output),
+        Call::Sha3512 => sha3::sha3_512(first, output),
+        Call::WriteRecord => records::write_record(door, time, number, first, output),
+    }
+}

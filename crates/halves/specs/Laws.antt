@@ -1,4 +1,0 @@
-pub mod Sums
-pub mod Join
-pub mod Level
-pub mod Rooms

@@ -1,0 +1,129 @@
+// The plain products of 16 coefficients of one polynomial b with those of several others, the rows, modulo 65536, in one lent slice.
+//
+// Coefficients stand in lines of 16; a line of an operand has 8 zeros before it. Operands are laid line by line: the first line of each row,
+// then that of b, then the second lines, and so on; products likewise, without b and without zeros. So each window of a row is at hand.
+ghost use mathlib.Core.Path.{_≡_};
+ghost use Prim.Native.Nat.{ℕ, _+_, _<_, _≤_};
+ghost use lib.IntN.{pos};
+ghost use lib.ListN.{length, getD};
+ghost use Rattle.lists.specs.Lists.{from};
+ghost use Rattle.algebra.specs.Integers.{Same};
+ghost use Rattle.algebra.specs.Halves.{window};
+ghost use Rattle.karatsuba_base.specs.Layout.{reads};
+ghost use Rattle.karatsuba_base.specs.Ensures.{Put, Lower, Upper, Plain};
+ghost use Rattle.karatsuba_base.specs.Requires.{Windows, PlainScratch};
+use ring::times;
+use std::num;
+
+// The sum of p_i row_(t+8-i) for the eight i, modulo 65536.
+fn terms(p: &[u16], row: &[u16], t: usize) -> u16
+    requires { ⌜ Windows (length (now p)) (length (now row)) × (t < 24) ⌝ }
+    ensures { λ r. ⌜ Same 65536 (pos r) (window (reads (now (p .entry))) (reads (now (row .entry))) t) ⌝ }
+{
+    let mut s: u16 = 0;
+    let mut i = 0;
+    while i < p.len() {
+        s = num::wrapping_add_u16(s, times(p[i], row[t + 8 - i]));
+        i += 1;
+    }
+    s
+}
+
+// The product of eight coefficients and a row.
+fn lower(p: &[u16], row: &[u16]) -> [u16; 32]
+    requires { ⌜ Windows (length (now p)) (length (now row)) ⌝ }
+    ensures { λ r. ⌜ Lower (now (p .entry)) (now (row .entry)) 24 r ⌝ }
+{
+    let mut r = [0u16; 32];
+    let mut k = 0;
+    while k < 24 {
+        r[k] = terms(p, row, k);
+        k += 1;
+    }
+    r
+}
+
+// The product of the next eight coefficients and the same row, added.
+fn upper(p: &[u16], row: &[u16], low: [u16; 32]) -> [u16; 32]
+    requires { ⌜ Windows (length (now p)) (length (now row)) ⌝ }
+    ensures { λ r. ⌜ Upper (now (p .entry)) (now (row .entry)) low 24 r ⌝ }
+{
+    let mut r = low;
+    let mut k = 0;
+    while k < 24 {
+        r[k + 8] = num::wrapping_add_u16(low[k + 8], terms(p, row, k));
+        k += 1;
+    }
+    r
+}
+
+// r, at the place `at`.
+pub fn put(r: &[u16], work: &mut [u16], at: usize)
+    requires { ⌜ at + length (now r) ≤ length (now work) ⌝ }
+    ensures { λ _. ⌜ Put at (length (now (r .entry))) (λ (k : ℕ). getD (now (r .entry)) k 0) (now (work .entry)) (now (work .exit)) ⌝ }
+{
+    let mut k = 0;
+    while k < r.len() {
+        work[at + k] = r[k];
+        k += 1;
+    }
+}
+
+// The sixteen places from b on.
+fn sixteen(work: &[u16], b: usize) -> [u16; 16]
+    requires { ⌜ b + 16 ≤ length (now work) ⌝ }
+    ensures { λ r. ⌜ r ≡ from 16 (λ (k : ℕ). getD (now (work .entry)) (b + k) 0) ⌝ }
+{
+    let mut r = [0u16; 16];
+    let mut k = 0;
+    while k < 16 {
+        r[k] = work[b + k];
+        k += 1;
+    }
+    r
+}
+
+// The plain product of 16 coefficients, for one row.
+fn plain_one(work: &mut [u16], a: usize, out: usize)
+    requires { ⌜ PlainScratch 1 a out (now work) ⌝ }
+    ensures { λ _. ⌜ Plain 1 1 a out (now (work .entry)) (now (work .exit)) ⌝ }
+{
+    let row = a + 32;
+    let mid = a + 40;
+    let end = a + 48;
+    let low = lower(&work[row..mid], &work[a..row]);
+    let r = upper(&work[mid..end], &work[a..row], low);
+    put(&r[0..16], work, out);
+    put(&r[16..32], work, out + 16);
+}
+
+// The same for several rows, with b read once.
+fn plain_rows(rows: usize, work: &mut [u16], a: usize, out: usize)
+    requires { ⌜ PlainScratch rows a out (now work) ⌝ }
+    ensures { λ _. ⌜ Plain rows rows a out (now (work .entry)) (now (work .exit)) ⌝ }
+{
+    let b = sixteen(work, a + 24 * rows + 8);
+    let mut i = 0;
+    while i < rows {
+        let s = a + 24 * i;
+        let e = s + 32;
+        let low = lower(&b[0..8], &work[s..e]);
+        let r = upper(&b[8..16], &work[s..e], low);
+        let x = out + 16 * i;
+        put(&r[0..16], work, x);
+        put(&r[16..32], work, x + 16 * rows);
+        i += 1;
+    }
+}
+
+// The plain product of 16 coefficients for each row.
+pub fn plain(rows: usize, work: &mut [u16], a: usize, out: usize)
+    requires { ⌜ PlainScratch rows a out (now work) ⌝ }
+    ensures { λ _. ⌜ Plain rows rows a out (now (work .entry)) (now (work .exit)) ⌝ }
+{
+    if rows == 1 {
+        plain_one(work, a, out);
+        return;
+    }
+    plain_rows(rows, work, a, out);
+}

@@ -1,0 +1,4 @@
+pub mod Sums
+pub mod Join
+pub mod Level
+pub mod Scratch

@@ -1,0 +1,4 @@
+pub mod Layout
+pub mod Requires
+pub mod Ensures
+pub mod Laws

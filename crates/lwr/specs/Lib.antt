@@ -1,0 +1,3 @@
+pub mod Lwr
+pub mod Requires
+pub mod Laws

@@ -1,3 +1,0 @@
-pub mod Margin
-pub mod Rooms
-pub mod Laws

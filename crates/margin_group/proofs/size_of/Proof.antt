@@ -1,0 +1,31 @@
+-- `margin_group::size_of` meets its contract: l is at most 4, so that the arrays have room.
+use native.Mathlib.Nat.{mul-le-mul}
+use native.Mathlib.Omega.{arith}
+use borrow.Author.Needs.{needs}
+use Rattle.margin_group.proofs.size_of.Statement.{statement}
+use Rattle.margin_group.proofs.size_of.Tie as tie
+
+mul-m-2 : tie.Need-mul-m-2
+mul-m-2 c = let few = c .before .before .before .before .before .pre .isSet .few in omega (arith, mul-le-mul few few)
+
+part-matrix-end : tie.Need-part-matrix-end
+part-matrix-end c = let few = c .before .before .before .before .before .before .pre .isSet .few in omega (arith, mul-le-mul few few)
+
+pub size-of-spec : {M : Type 1} → statement M
+size-of-spec =
+    tie.close
+    (tie.spec
+    (λ c. search needs)
+    mul-m-2
+    (λ c. search needs)
+    (λ c. search needs)
+    (λ c. search needs)
+    part-matrix-end
+    (λ c. search needs)
+    (λ c. search needs)
+    (λ c. search needs)
+    (λ c. search needs)
+    (λ c. search needs)
+    (λ c. search needs)
+    (λ c κs. search needs)
+    (λ c. search needs))

@@ -1,0 +1,35 @@
+-- The definitions in figures.
+use Prim.Native.Nat.{_+_}
+use mathlib.Core.List.{[], _∷_}
+use mathlib.Core.Option.{none, some}
+use mathlib.Core.Path.{_≡_, refl}
+use lib.IntN.{pos, negsuc}
+use lib.ListN.{length}
+use Rattle.lists.specs.Lists.{from}
+use Rattle.margin_noise.specs.Norm.{largest}
+use Rattle.margin_group.specs.Margin.{matrixSeed, secretSeed, encapsSeed, differing, groups, rest, smallest, total}
+
+-- of -5, 3 and 4 the largest size is 5, and -5 the smallest number; none is the smallest of no numbers
+pub sizes : largest (negsuc 4 ∷ pos 3 ∷ pos 4 ∷ []) ≡ 5
+unfolding largest
+sizes = refl
+
+pub smallests : (smallest (pos 3 ∷ negsuc 4 ∷ pos 4 ∷ []) ≡ some (negsuc 4)) × (smallest [] ≡ none)
+unfolding smallest
+smallests = (refl, refl)
+
+-- two of four places differ; 1 + 2 + 3
+pub counts : (differing (1 ∷ 0 ∷ 1 ∷ 1 ∷ []) (1 ∷ 1 ∷ 1 ∷ 0 ∷ []) ≡ 2) × (total (1 ∷ 2 ∷ 3 ∷ []) ≡ 6)
+unfolding differing total
+counts = (refl, refl)
+
+-- of 200 bytes two groups and 8 bytes over; where the seeds of the second group begin
+pub cut : (length (groups (from 200 (λ i. i))) ≡ 2) × (rest (from 200 (λ i. i)) ≡ 8)
+unfolding groups from
+cut = (refl, refl)
+
+pub seeds :
+    (matrixSeed (from 96 (λ i. i)) ≡ from 32 (λ i. i)) × (secretSeed (from 96 (λ i. i)) ≡ from 32 (λ i. 32 + i))
+    × (encapsSeed (from 96 (λ i. i)) ≡ from 32 (λ i. 64 + i))
+unfolding from
+seeds = (refl, refl, refl)

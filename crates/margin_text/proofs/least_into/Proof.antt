@@ -1,0 +1,34 @@
+-- `margin_text::least_into` meets its contract: `none`, or the difference of 8 × M and the size.
+use mathlib.Core.Path.{ap}
+use native.Mathlib.Omega.{arith}
+use borrow.Author.Needs.{needs}
+use lib.ListN.{length}
+use Rattle.lists.specs.Lists.{from}
+use Rattle.decimals.specs.Laws.Texts.{appended-as}
+use Rattle.margin_text.specs.Report.{ascii}
+use Rattle.margin_text.specs.Laws.Texts.{none-text, some-text}
+use Rattle.margin_text.proofs.least_into.Statement.{statement}
+use Rattle.margin_text.proofs.least_into.Tie as tie
+
+pub least-into-spec : {M : Type 1} → statement M
+unfolding ascii from
+least-into-spec =
+    tie.close
+    (tie.spec
+    (λ c. search needs)
+    (λ c κs.
+    let x = c .before .before .before .before .args in
+    omega (arith, ap length (none-text (x .p) (x .cases) (x .size) (c .before .before .if1 .taken))))
+    (λ c. search needs)
+    (λ c.
+    let x = c .before .before .before .before .before .before .before .args in
+    appended-as (none-text (x .p) (x .cases) (x .size) (c .before .before .before .before .before .if1 .taken)) (c .before .before .text-into .ensures))
+    (λ c. search needs)
+    (λ c. search needs)
+    (λ c κs.
+    let x = c .before .before .before .before .args in
+    omega (arith, ap length (some-text (x .p) (x .cases) (x .size) (c .before .before .if1 .left))))
+    (λ c. search needs)
+    (λ c.
+    let x = c .before .before .before .before .before .before .before .args in
+    appended-as (some-text (x .p) (x .cases) (x .size) (c .before .before .before .before .before .if1 .left)) (c .before .before .difference-into .ensures)))

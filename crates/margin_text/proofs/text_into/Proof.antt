@@ -1,0 +1,14 @@
+-- `margin_text::text_into` meets its contract.
+use borrow.Author.Needs.{needs}
+use Rattle.margin_text.specs.Laws.Texts.{appended-copy}
+use Rattle.margin_text.proofs.text_into.Statement.{statement}
+use Rattle.margin_text.proofs.text_into.Tie as tie
+
+pub text-into-spec : {M : Type 1} → statement M
+text-into-spec =
+    tie.close
+    (tie.spec
+    (λ c κs. search needs)
+    (λ c. search needs)
+    (λ c. search needs)
+    (λ c. appended-copy _ _ _ (c .before .before .before .before .before .before .pre) (c .before .before .copy-at .ensures)))

@@ -1,0 +1,14 @@
+-- `margin_text::word_into` meets its contract.
+use borrow.Author.Needs.{needs}
+use Rattle.decimals.specs.Laws.Texts.{appended-two}
+use Rattle.margin_text.proofs.word_into.Statement.{statement}
+use Rattle.margin_text.proofs.word_into.Tie as tie
+
+pub word-into-spec : {M : Type 1} → statement M
+word-into-spec =
+    tie.close
+    (tie.spec
+    (λ c κs. search needs)
+    (λ c κs. search needs)
+    (λ c. search needs)
+    (λ c. appended-two (c .before .before .before .before .before .before .decimal-into .ensures) (c .before .before .put .ensures)))

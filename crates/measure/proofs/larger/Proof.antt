@@ -1,7 +1,0 @@
--- `measure::larger` meets its contract.
-use native.Mathlib.Omega.{arith}
-use Rattle.measure.proofs.larger.Statement.{statement}
-use Rattle.measure.proofs.larger.Tie as tie
-
-pub larger-spec : {M : Type 1} → statement M
-larger-spec = tie.close (tie.spec (λ c. omega arith) (λ c. omega arith))

@@ -1,1 +1,0 @@
-// Vectors and matrices of polynomials and their products: definitions and laws, in specs/.
