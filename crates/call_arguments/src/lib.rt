@@ -1,16 +1,24 @@
-// The arguments of a request, read from its line, and the printing of answers.
+// The arguments of a request, read from its line.
 ghost use Prim.Native.Nat.{_≤_, _<_};
 ghost use lib.ListN.{length};
 use call_words::Bytes;
 use call_words::List;
 use call_words::Optional;
-use call_words::Shape;
 use call_words::Signed;
 use call_words::Step;
-use call_words::Text;
 use records::Door;
-use records::Read;
 use records::Time;
+
+// How many arguments of each kind a call takes, in the order in which they stand.
+pub struct Shape {
+    pub optionals: usize,
+    pub numbers: usize,
+    pub strings: usize,
+    pub lists: usize,
+    pub byte_outputs: usize,
+    pub list_outputs: usize,
+    pub signed_outputs: usize,
+}
 
 // The hex words of a request, in the order in which they stand: three byte strings, two lists, two byte outputs and a list output. The
 // bytes of word k end where those of word k + 1 start; those of a word that a call does not take are none.
@@ -159,103 +167,4 @@ pub fn fill(
     call_words::copy_into(part(bytes, ends, 5), output);
     call_words::copy_into(part(bytes, ends, 6), extra);
     call_words::list_into(part(bytes, ends, 7), result);
-}
-
-// The first n bytes of a buffer, or all of it, and the same of lists.
-pub fn front(bytes: &[u8], n: usize) -> &[u8] {
-    let end = call_words::least(n, bytes.len());
-    &bytes[0..end]
-}
-
-pub fn list_front(list: &[u16], n: usize) -> &[u16] {
-    let end = call_words::least(n, list.len());
-    &list[0..end]
-}
-
-pub fn signed_front(list: &[i8], n: usize) -> &[i8] {
-    let end = call_words::least(n, list.len());
-    &list[0..end]
-}
-
-// The functions below print, and say whether all was written. After the first write that fails there is none.
-
-pub fn print(text: &[u8]) -> bool {
-    streams::write_all(text)
-}
-
-pub fn print_word(bytes: &[u8], text: &mut Text) -> bool {
-    let n = call_words::word_into(bytes, text);
-    print(front(text, n))
-}
-
-// Prints a space and then an output, where there is one.
-fn print_output(wanted: bool, bytes: &[u8], text: &mut Text) -> bool {
-    if wanted {
-        return print(b" ") && print_word(bytes, text);
-    }
-    true
-}
-
-// Prints an answer and every output, the list by way of bytes.
-pub fn print_answer(
-    shape: Shape,
-    answer: u8,
-    output: &[u8],
-    extra: &[u8],
-    result: &[u16],
-    spare: &mut Bytes,
-    text: &mut Text,
-) -> bool {
-    let n = call_words::bytes_into(result, spare);
-    streams::print_decimal(answer as u64)
-        && print_output(shape.byte_outputs > 0, output, text)
-        && print_output(shape.byte_outputs > 1, extra, text)
-        && print_output(shape.list_outputs > 0, front(spare, n), text)
-}
-
-// Prints an answer and signed numbers.
-pub fn print_signed(answer: u8, list: &[i8], text: &mut Text) -> bool {
-    let n = call_words::signed_into(list, text);
-    streams::print_decimal(answer as u64) && print(b" ") && print(front(text, n))
-}
-
-// Prints a space and then a number, a door or a time, which is `-` where it is missing.
-fn print_number(x: u64) -> bool {
-    print(b" ") && streams::print_decimal(x)
-}
-
-fn print_door(door: Door) -> bool {
-    match door {
-        Door::Number(x) => print_number(x as u64),
-        Door::Missing => print(b" -"),
-    }
-}
-
-fn print_time(time: Time) -> bool {
-    match time {
-        Time::Number(x) => print_number(x),
-        Time::Missing => print(b" -"),
-    }
-}
-
-// Prints the answer of reading a record, and the numbers of its entry.
-pub fn print_read(read: Read) -> bool {
-    match read {
-        Read::Entry(head) => {
-            let door = head.door;
-            let time = head.time;
-            print(b"0") && print_door(door) && print_time(time) && print_number(head.set as u64)
-        }
-        Read::Refused(answer) => streams::print_decimal(answer as u64) && print(b" - - -"),
-    }
-}
-
-// Prints what is wrong with a line.
-pub fn print_fault(fault: u8) -> bool {
-    match fault {
-        call_words::WRONG_COUNT => print(b"error wrong count"),
-        call_words::BAD_DIGIT => print(b"error bad digit"),
-        call_words::ODD_COUNT => print(b"error odd count"),
-        _ => print(b"error too large"),
-    }
 }

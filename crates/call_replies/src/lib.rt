@@ -1,15 +1,118 @@
-// Replies: the call that a request names is made, and what it gives is printed.
+// Replies: a line is read, the call that it names is made, and what it gives is printed.
+ghost use Prim.Native.Nat.{_≤_};
+ghost use lib.ListN.{length};
 use call_arguments::Arguments;
+use call_arguments::Shape;
 use call_table::Call;
+use call_table::Form;
+use call_table::Found;
 use call_table::Request;
-use call_table::Row;
 use call_words::Bytes;
 use call_words::List;
-use call_words::Shape;
 use call_words::Signed;
 use call_words::Text;
+use records::Door;
+use records::Read;
+use records::Time;
 
-// All functions here print, and say whether all was written. After the first write that fails there is none.
+// The first n bytes of a buffer, or all of it, and the same of lists.
+fn front(bytes: &[u8], n: usize) -> &[u8] {
+    let end = call_words::least(n, bytes.len());
+    &bytes[0..end]
+}
+
+fn list_front(list: &[u16], n: usize) -> &[u16] {
+    let end = call_words::least(n, list.len());
+    &list[0..end]
+}
+
+fn signed_front(list: &[i8], n: usize) -> &[i8] {
+    let end = call_words::least(n, list.len());
+    &list[0..end]
+}
+
+// The functions below print, and say whether all was written. After a write that fails they write nothing more.
+
+fn print(text: &[u8]) -> bool {
+    streams::write_all(text)
+}
+
+fn print_word(bytes: &[u8], text: &mut Text) -> bool {
+    let n = call_words::word_into(bytes, text);
+    print(front(text, n))
+}
+
+// Prints a space and then an output, where there is one.
+fn print_output(wanted: bool, bytes: &[u8], text: &mut Text) -> bool {
+    if wanted {
+        return print(b" ") && print_word(bytes, text);
+    }
+    true
+}
+
+// Prints an answer and every output, the list by way of bytes.
+fn print_answer(
+    shape: Shape,
+    answer: u8,
+    output: &[u8],
+    extra: &[u8],
+    result: &[u16],
+    spare: &mut Bytes,
+    text: &mut Text,
+) -> bool {
+    let n = call_words::bytes_into(result, spare);
+    streams::print_decimal(answer as u64)
+        && print_output(shape.byte_outputs > 0, output, text)
+        && print_output(shape.byte_outputs > 1, extra, text)
+        && print_output(shape.list_outputs > 0, front(spare, n), text)
+}
+
+// Prints an answer and signed numbers.
+fn print_signed(answer: u8, list: &[i8], text: &mut Text) -> bool {
+    let n = call_words::signed_into(list, text);
+    streams::print_decimal(answer as u64) && print(b" ") && print(front(text, n))
+}
+
+// Prints a space and then a number, a door or a time, which is `-` where it is missing.
+fn print_number(x: u64) -> bool {
+    print(b" ") && streams::print_decimal(x)
+}
+
+fn print_door(door: Door) -> bool {
+    match door {
+        Door::Number(x) => print_number(x as u64),
+        Door::Missing => print(b" -"),
+    }
+}
+
+fn print_time(time: Time) -> bool {
+    match time {
+        Time::Number(x) => print_number(x),
+        Time::Missing => print(b" -"),
+    }
+}
+
+// Prints the answer of reading a record, and the numbers of its entry.
+fn print_read(read: Read) -> bool {
+    match read {
+        Read::Entry(head) => {
+            let door = head.door;
+            let time = head.time;
+            print(b"0") && print_door(door) && print_time(time) && print_number(head.set as u64)
+        }
+        Read::Refused(answer) => streams::print_decimal(answer as u64) && print(b" - - -"),
+    }
+}
+
+// Prints what is wrong with a line.
+fn print_fault(fault: u8) -> bool {
+    match fault {
+        call_words::WRONG_COUNT => print(b"error wrong count"),
+        call_words::BAD_DIGIT => print(b"error bad digit"),
+        call_words::ODD_COUNT => print(b"error odd count"),
+        _ => print(b"error too large"),
+    }
+}
 
 // Makes a call and prints its answer. A list or an output is the front of its buffer.
 fn answer_call(
@@ -35,18 +138,18 @@ fn answer_call(
         call_arguments::part(bytes, ends, 0),
         call_arguments::part(bytes, ends, 1),
         call_arguments::part(bytes, ends, 2),
-        call_arguments::list_front(left, call_arguments::part(bytes, ends, 3).len() / 2),
-        call_arguments::list_front(right, call_arguments::part(bytes, ends, 4).len() / 2),
+        list_front(left, call_arguments::part(bytes, ends, 3).len() / 2),
+        list_front(right, call_arguments::part(bytes, ends, 4).len() / 2),
         &mut output[0..o],
         &mut extra[0..p],
         &mut result[0..q],
     );
-    call_arguments::print_answer(
+    print_answer(
         shape,
         answer,
-        call_arguments::front(output, o),
-        call_arguments::front(extra, p),
-        call_arguments::list_front(result, q),
+        front(output, o),
+        front(extra, p),
+        list_front(result, q),
         spare,
         text,
     )
@@ -58,7 +161,7 @@ fn answer_secret(a: Arguments, bytes: &[u8], signed: &mut [i8], text: &mut Text)
     let n = call_words::least(a.signed, signed.len());
     let seed = call_arguments::part(bytes, ends, 0);
     let answer = sampling::gen_secret(a.numbers.number, seed, &mut signed[0..n]);
-    call_arguments::print_signed(answer, call_arguments::signed_front(signed, n), text)
+    print_signed(answer, signed_front(signed, n), text)
 }
 
 // Reads a record, and prints its entry and the ciphertext, which is the front of its buffer.
@@ -66,14 +169,12 @@ fn answer_read(a: Arguments, bytes: &[u8], ciphertext: &mut [u8], text: &mut Tex
     let ends = a.ends;
     let n = call_words::least(call_arguments::part(bytes, ends, 5).len(), ciphertext.len());
     let read = records::read_record(call_arguments::part(bytes, ends, 0), &mut ciphertext[0..n]);
-    call_arguments::print_read(read)
-        && call_arguments::print(b" ")
-        && call_arguments::print_word(call_arguments::front(ciphertext, n), text)
+    print_read(read) && print(b" ") && print_word(front(ciphertext, n), text)
 }
 
 // Prints the reply to a request: what it asks for, or why it cannot be read.
-pub fn reply(
-    row: Row,
+fn reply(
+    form: Form,
     a: Arguments,
     bytes: &Bytes,
     left: &mut List,
@@ -86,15 +187,15 @@ pub fn reply(
     text: &mut Text,
 ) -> bool {
     if a.fault != call_words::SOUND {
-        return call_arguments::print_fault(a.fault);
+        return print_fault(a.fault);
     }
     let ends = a.ends;
-    let request = row.request;
+    let request = form.request;
     call_arguments::fill(ends, bytes, left, right, output, extra, result);
     match request {
         Request::Call(call) => answer_call(
             call,
-            row.shape,
+            form.shape,
             a,
             bytes,
             left,
@@ -108,8 +209,78 @@ pub fn reply(
         Request::GenSecret => answer_secret(a, bytes, signed, text),
         Request::PublicKeyOf => {
             let key = keys::public_key_of(a.numbers.number, call_arguments::part(bytes, ends, 0));
-            call_arguments::print_word(key, text)
+            print_word(key, text)
         }
         Request::ReadRecord => answer_read(a, bytes, output, text),
     }
+}
+
+fn byte_buffer() -> Bytes {
+    [0; 32768]
+}
+
+fn list_buffer() -> List {
+    [0; 16384]
+}
+
+fn signed_buffer() -> Signed {
+    [0; 32768]
+}
+
+fn text_buffer() -> Text {
+    [0; 163840]
+}
+
+// Answers a request whose arguments start at a place of the line, and says whether all was written.
+fn answer_request(form: Form, line: &[u8], at: usize) -> bool
+    requires { ⌜ length (now line) ≤ 65536 ⌝ }
+{
+    let mut bytes = byte_buffer();
+    let mut left = list_buffer();
+    let mut right = list_buffer();
+    let mut output = byte_buffer();
+    let mut extra = byte_buffer();
+    let mut result = list_buffer();
+    let mut signed = signed_buffer();
+    let mut spare = byte_buffer();
+    let mut text = text_buffer();
+    let shape = form.shape;
+    let a = call_arguments::read(shape, line, at, &mut bytes, &mut signed);
+    reply(
+        form,
+        a,
+        &bytes,
+        &mut left,
+        &mut right,
+        &mut output,
+        &mut extra,
+        &mut result,
+        &mut signed,
+        &mut spare,
+        &mut text,
+    )
+}
+
+fn is_comment(line: &[u8]) -> bool {
+    if line.len() > 0 {
+        line[0] == b'#'
+    } else {
+        false
+    }
+}
+
+// Answers a line, unless it is a comment, and says whether all was written.
+pub fn answer(line: &[u8]) -> bool {
+    if is_comment(line) {
+        return true;
+    }
+    if line.len() > 65536 {
+        return print(b"error too long\n");
+    }
+    let end = call_words::word_end(line, 0);
+    let is_written = match call_table::form_of(&line[0..end]) {
+        Found::Form(form) => answer_request(form, line, end + 1),
+        Found::Nothing => print(b"error unknown call"),
+    };
+    is_written && print(b"\n")
 }

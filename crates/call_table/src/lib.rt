@@ -1,7 +1,6 @@
 // The library's calls by name: what each takes, and the dispatch to it.
-
 use call_arguments::Numbers;
-use call_words::Shape;
+use call_arguments::Shape;
 
 // The calls that answer with a number.
 pub enum Call {
@@ -34,26 +33,26 @@ pub enum Request {
 }
 
 // A request, and what it takes.
-pub struct Row {
+pub struct Form {
     pub request: Request,
     pub shape: Shape,
 }
 
 pub enum Found {
-    Row(Row),
+    Form(Form),
     Nothing,
 }
 
-// A row where its name is the one that is asked for, and else what was found before.
-fn select(found: Found, asked: &[u8], name: &[u8], row: Row) -> Found {
+// A form where its name is the one that is asked for, and else what was found before.
+fn select(found: Found, asked: &[u8], name: &[u8], form: Form) -> Found {
     if check::same(asked, name) {
-        return Found::Row(row);
+        return Found::Form(form);
     }
     found
 }
 
-// The row of a call without optional numbers.
-fn entry(
+// The form of a call without optional numbers.
+fn form(
     found: Found,
     asked: &[u8],
     name: &[u8],
@@ -74,11 +73,11 @@ fn entry(
         signed_outputs: 0,
     };
     let request = Request::Call(call);
-    select(found, asked, name, Row { request, shape })
+    select(found, asked, name, Form { request, shape })
 }
 
-// The row of a request without lists.
-fn byte_entry(
+// The form of a request without lists.
+fn byte_form(
     found: Found,
     asked: &[u8],
     name: &[u8],
@@ -97,13 +96,13 @@ fn byte_entry(
         list_outputs: 0,
         signed_outputs: 0,
     };
-    select(found, asked, name, Row { request, shape })
+    select(found, asked, name, Form { request, shape })
 }
 
 // The table.
-pub fn row_of(name: &[u8]) -> Found {
+pub fn form_of(name: &[u8]) -> Found {
     let f = Found::Nothing;
-    let secret = Shape {
+    let shape = Shape {
         optionals: 0,
         numbers: 1,
         strings: 1,
@@ -112,34 +111,34 @@ pub fn row_of(name: &[u8]) -> Found {
         list_outputs: 0,
         signed_outputs: 1,
     };
-    let row = Row {
+    let secret = Form {
         request: Request::GenSecret,
-        shape: secret,
+        shape,
     };
-    let f = select(f, name, b"gen_secret", row);
+    let f = select(f, name, b"gen_secret", secret);
     // name, optional numbers, numbers, byte strings, byte outputs
-    let f = byte_entry(f, name, b"public_key_of", Request::PublicKeyOf, 0, 1, 1, 0);
-    let f = byte_entry(f, name, b"read_record", Request::ReadRecord, 0, 0, 1, 1);
+    let f = byte_form(f, name, b"public_key_of", Request::PublicKeyOf, 0, 1, 1, 0);
+    let f = byte_form(f, name, b"read_record", Request::ReadRecord, 0, 0, 1, 1);
     let write = Request::Call(Call::WriteRecord);
-    let f = byte_entry(f, name, b"write_record", write, 2, 1, 1, 1);
+    let f = byte_form(f, name, b"write_record", write, 2, 1, 1, 1);
     // name, numbers, byte strings, lists, byte outputs, list outputs
-    let f = entry(f, name, b"keygen", Call::Keygen, 1, 3, 0, 2, 0);
-    let f = entry(f, name, b"encaps", Call::Encaps, 1, 2, 0, 2, 0);
-    let f = entry(f, name, b"decaps", Call::Decaps, 1, 2, 0, 1, 0);
-    let f = entry(f, name, b"encrypt", Call::Encrypt, 1, 3, 0, 1, 0);
-    let f = entry(f, name, b"decrypt", Call::Decrypt, 1, 2, 0, 1, 0);
-    let f = entry(f, name, b"gen_matrix", Call::GenMatrix, 1, 1, 0, 0, 1);
-    let f = entry(f, name, b"poly_mul", Call::PolyMul, 1, 0, 2, 0, 1);
+    let f = form(f, name, b"keygen", Call::Keygen, 1, 3, 0, 2, 0);
+    let f = form(f, name, b"encaps", Call::Encaps, 1, 2, 0, 2, 0);
+    let f = form(f, name, b"decaps", Call::Decaps, 1, 2, 0, 1, 0);
+    let f = form(f, name, b"encrypt", Call::Encrypt, 1, 3, 0, 1, 0);
+    let f = form(f, name, b"decrypt", Call::Decrypt, 1, 2, 0, 1, 0);
+    let f = form(f, name, b"gen_matrix", Call::GenMatrix, 1, 1, 0, 0, 1);
+    let f = form(f, name, b"poly_mul", Call::PolyMul, 1, 0, 2, 0, 1);
     let karatsuba = Call::PolyMulKaratsuba;
-    let f = entry(f, name, b"poly_mul_karatsuba", karatsuba, 1, 0, 2, 0, 1);
-    let f = entry(f, name, b"round", Call::Round, 0, 0, 1, 0, 1);
-    let f = entry(f, name, b"recon_data", Call::ReconData, 1, 0, 1, 0, 1);
-    let f = entry(f, name, b"recover", Call::Recover, 1, 0, 2, 0, 1);
-    let f = entry(f, name, b"pack", Call::Pack, 1, 0, 1, 1, 0);
-    let f = entry(f, name, b"unpack", Call::Unpack, 1, 1, 0, 0, 1);
-    let f = entry(f, name, b"shake128", Call::Shake128, 0, 1, 0, 1, 0);
-    let f = entry(f, name, b"sha3_256", Call::Sha3256, 0, 1, 0, 1, 0);
-    entry(f, name, b"sha3_512", Call::Sha3512, 0, 1, 0, 1, 0)
+    let f = form(f, name, b"poly_mul_karatsuba", karatsuba, 1, 0, 2, 0, 1);
+    let f = form(f, name, b"round", Call::Round, 0, 0, 1, 0, 1);
+    let f = form(f, name, b"recon_data", Call::ReconData, 1, 0, 1, 0, 1);
+    let f = form(f, name, b"recover", Call::Recover, 1, 0, 2, 0, 1);
+    let f = form(f, name, b"pack", Call::Pack, 1, 0, 1, 1, 0);
+    let f = form(f, name, b"unpack", Call::Unpack, 1, 1, 0, 0, 1);
+    let f = form(f, name, b"shake128", Call::Shake128, 0, 1, 0, 1, 0);
+    let f = form(f, name, b"sha3_256", Call::Sha3256, 0, 1, 0, 1, 0);
+    form(f, name, b"sha3_512", Call::Sha3512, 0, 1, 0, 1, 0)
 }
 
 // Makes a call. An argument that the call does not have is 0 or empty.

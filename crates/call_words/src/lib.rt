@@ -1,6 +1,6 @@
-// The notation of requests and their answers: words with one space between; decimal numbers; bytes as hex pairs; numbers of 16 bits as
-// four hex digits; signed numbers as decimals with commas between; `-` for an empty string or list and for a missing number. What has no
-// room in a buffer is left out; the contracts speak of places alone. What decimals spell is promised in `decimals`.
+// The words of requests and replies, with one space between: decimal numbers; bytes as hex pairs; numbers of 16 bits as four hex digits;
+// signed numbers as decimals with commas between; `-` for an empty string or list and for a missing number. What does not fit a buffer is
+// left out; the contracts say that the code stays within its buffers. What decimals spell is promised in `decimals`.
 ghost use Prim.Native.Nat.{_≤_, _<_};
 ghost use lib.ListN.{length};
 
@@ -13,17 +13,6 @@ pub type List = [u16; 16384];
 pub type Signed = [i8; 32768];
 
 pub type Text = [u8; 163840];
-
-// How many arguments of each kind a call takes, in the order in which they stand.
-pub struct Shape {
-    pub optionals: usize,
-    pub numbers: usize,
-    pub strings: usize,
-    pub lists: usize,
-    pub byte_outputs: usize,
-    pub list_outputs: usize,
-    pub signed_outputs: usize,
-}
 
 // What is wrong with a line, or nothing.
 pub const SOUND: u8 = decimals::SOUND;
@@ -126,9 +115,9 @@ pub fn read_optional(wanted: bool, most: usize, line: &[u8], from: Step) -> Opti
     }
 }
 
-// Reads a word of elements of so many hex digits into bytes from a place on, and says what is wrong with it. Each digit is shifted into
-// its byte from the right.
-fn hex_into(word: &[u8], digits: usize, bytes: &mut Bytes, place: usize) -> u8
+// Reads a word, whose elements have `digits` hex digits each, into bytes from a place on, and says what is wrong with it. Each digit is
+// shifted into its byte from the right.
+fn hex_into(word: &[u8], digits: usize, place: usize, bytes: &mut Bytes) -> u8
     requires { ⌜ (0 < digits) × (place ≤ 32768) ⌝ }
 {
     if check::same(word, b"-") {
@@ -154,8 +143,8 @@ fn hex_into(word: &[u8], digits: usize, bytes: &mut Bytes, place: usize) -> u8
     SOUND
 }
 
-// Reads the next word as elements of so many hex digits, where one is wanted and nothing is wrong yet. Its bytes go behind those that
-// were read before.
+// Reads the next word, whose elements have `digits` hex digits each, where one is wanted and nothing is wrong yet. Its bytes go behind
+// those that were read before.
 pub fn read_hex(wanted: bool, digits: usize, line: &[u8], from: Step, bytes: &mut Bytes) -> Step
     requires { ⌜ (0 < digits) × (from .value ≤ 32768) ⌝ }
     ensures { λ r. ⌜ r .value ≤ 32768 ⌝ }
@@ -172,7 +161,7 @@ pub fn read_hex(wanted: bool, digits: usize, line: &[u8], from: Step, bytes: &mu
         };
     }
     let end = word_end(line, at);
-    let fault = hex_into(&line[at..end], digits, bytes, from.value);
+    let fault = hex_into(&line[at..end], digits, from.value, bytes);
     Step {
         value: least(from.value + (end - at) / 2, 32768),
         next: end + 1,

@@ -20,15 +20,15 @@ struct State {
 fn answer(line: &[u8], kept: usize) -> bool
     requires { ⌜ kept ≤ length (now line) ⌝ }
 {
-    let is_written = requests::answer(&line[0..kept]);
+    let is_written = call_replies::answer(&line[0..kept]);
     if !is_written {
         os::fail(b"sabercall: standard output");
     }
     is_written
 }
 
-// Keeps a byte at the end of a line, where there is room.
-fn keep(line: &mut Line, kept: usize, b: u8) -> usize
+// Keeps a byte at the end of a line that is not too long.
+fn keep(b: u8, kept: usize, line: &mut Line) -> usize
     requires { ⌜ kept ≤ 65538 ⌝ }
     ensures { λ r. ⌜ r ≤ 65538 ⌝ }
 {
@@ -53,7 +53,7 @@ fn length_of(line: &Line, kept: usize) -> usize
 }
 
 // Reads another block. Input that ends in the middle of a line ends the line. Where it fails, that is said, and the line has no answer.
-fn refill(block: &mut Block, line: &Line, kept: usize) -> State
+fn refill(line: &Line, kept: usize, block: &mut Block) -> State
     requires { ⌜ kept ≤ 65538 ⌝ }
     ensures { λ r. ⌜ Good r ⌝ }
 {
@@ -72,14 +72,14 @@ fn refill(block: &mut Block, line: &Line, kept: usize) -> State
 }
 
 // Takes a byte of the block, and answers the line at a newline.
-fn turn(block: &mut Block, line: &mut Line, s: State) -> State
+fn turn(s: State, block: &mut Block, line: &mut Line) -> State
     requires { ⌜ Good s ⌝ }
     ensures { λ r. ⌜ Good r ⌝ }
 {
     let at = s.at;
     let end = s.end;
     if at == end {
-        return refill(block, line, s.kept);
+        return refill(line, s.kept, block);
     }
     let b = block[at];
     if b == b'\n' {
@@ -94,7 +94,7 @@ fn turn(block: &mut Block, line: &mut Line, s: State) -> State
     State {
         at: at + 1,
         end,
-        kept: keep(line, s.kept, b),
+        kept: keep(b, s.kept, line),
         open: true,
     }
 }
@@ -118,7 +118,7 @@ fn main() {
         if !s.open {
             return;
         }
-        let next = turn(&mut block, &mut line, s);
+        let next = turn(s, &mut block, &mut line);
         s = next;
         turns -= 1;
     }

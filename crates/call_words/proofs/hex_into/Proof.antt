@@ -8,8 +8,8 @@ pub hex-into-spec : {M : Type 1} → statement M
 hex-into-spec =
     tie.close
     (tie.spec
-    (λ word digits bytes₀ place n i₀ bytes i. i ≤ n)
-    (λ word digits bytes₀ place n i₀ bytes i. n - i)
+    (λ word digits place bytes₀ n i₀ bytes i. i ≤ n)
+    (λ word digits place bytes₀ n i₀ bytes i. n - i)
     (λ c. search needs)
     (λ c κs. search needs)
     (λ c. search needs)
