@@ -1,7 +1,7 @@
 #!/usr/bin/env python3
 """figures.py LOG [ROOT]: the repository's figures by crate, for docs/PROOFS.md.
 
-Lines of code, of definitions, of rooms (what inner functions ask and give), of laws and of proofs, neither blank nor
+Lines of code, of definitions, of inner files (what inner functions require and ensure), of laws and of proofs, neither blank nor
 comment nor import; the wrong programs that the check must refuse; and the seconds that the check took, from LOG, what
 `rt ci` printed. tests/definitions.py says which file of specs/ is what."""
 import pathlib
@@ -13,7 +13,7 @@ sys.path.append(str(ROOT / "tests"))
 
 from definitions import kind_of, specs
 
-KINDS = ("definitions", "rooms", "laws")
+KINDS = ("definitions", "inner", "laws")
 SKIPPED = re.compile(r"\s*(--|//|(ghost |pub )*use )|\s*$")
 SECONDS = re.compile(r"^rt: (\w+) proved \((\d+) s\)", re.MULTILINE)
 
@@ -29,7 +29,7 @@ def main():
     named = [line for line in (root / "crates.txt").read_text().splitlines() if not line.startswith("#")]
     seconds = dict(SECONDS.findall(pathlib.Path(sys.argv[1]).read_text()))
     total = [0] * 7
-    print("| crate | code | definitions | rooms | laws | proofs | wrong programs | seconds |")
+    print("| crate | code | definitions | inner | laws | proofs | wrong programs | seconds |")
     print("|---|--:|--:|--:|--:|--:|--:|--:|")
     for name in (line.split(":")[0] for line in named):
         crate = root / "crates" / name

@@ -2,13 +2,13 @@
 
     python3 tests/definitions.py [ROOT]
 
-Of the files of crates/*/specs, `Lib` and `Laws` only name others, `Rooms` holds what inner functions ask and give,
-the files below Laws/ are laws, and the rest are definitions. Checked is:
+Of the files of crates/*/specs, `Lib` and `Laws` only name others; `Requires`, `Ensures` and `Layout` are inner files, for
+the contracts of inner functions; the files below Laws/ are laws, and the rest are definitions. Checked is:
 
-- a file of definitions cites files of definitions alone; a contract and a file of rooms cite `Rooms` too;
-- files of definitions and of rooms hold no proof, and `Lib` and `Laws` nothing but `pub mod` lines;
-- no exported function and none of the oracle's calls has a `requires`, or anything of `Rooms` in its promise. Another
-  function that is `pub` and has a `requires` is an inner form.
+- a file of definitions cites files of definitions alone; a contract and an inner file cite inner files too;
+- files of definitions and inner files hold no proof, and `Lib` and `Laws` nothing but `pub mod` lines;
+- no exported function and none of the oracle's calls has a `requires`, or a name of an inner file in its promise.
+  Another function that is `pub` and has a `requires` is an inner form.
 
 It lists the files of definitions, and exits with 1 where something is not so.
 """
@@ -25,14 +25,14 @@ from calls import CALLS
 CITED = re.compile(r"Rattle·[\w·.]*\w")
 PLACE = re.compile(r"Rattle·(\w+?)(?:·specs)?\.specs\.(\w+)")
 PROOF = re.compile(r"\b(unfolding|refl|sym|ap|rw|simp|omega|search|absurd|cc)\b")
-ROOMS = re.compile(r"\.specs\.Rooms\.\{([^}]*)\}")
+INNER = re.compile(r"\.specs\.(?:Requires|Ensures|Layout)\.\{([^}]*)\}")
 FUNCTION = re.compile(r'(\bpub )?(extern "C" )?\bfn (\w+)')
 NAME = re.compile(r"^pub mod \w+\s*$", re.MULTILINE)
-NAMING = {"Lib": "names", "Laws": "names", "Rooms": "rooms"}
+NAMING = {"Lib": "names", "Laws": "names", "Requires": "inner", "Ensures": "inner", "Layout": "inner"}
 
 
 def kind_of(name):
-    """What a file of a name below specs/ holds: definitions, rooms, laws or names; None where no file should be."""
+    """What a file of a name below specs/ holds: definitions, inner, laws or names; None where no file should be."""
     folder, slash, file = name.rpartition("/")
     if not slash:
         return NAMING.get(file, "definitions")
@@ -78,7 +78,7 @@ def main():
     crates = sorted((root / "crates").iterdir())
     files = {(crate.name, name): path for crate in crates for name, path in specs(crate).items()}
     definitions = {key for key in files if kind_of(key[1]) == "definitions"}
-    with_rooms = definitions | {key for key in files if kind_of(key[1]) == "rooms"}
+    with_inner = definitions | {key for key in files if kind_of(key[1]) == "inner"}
 
     failed = []
     for (crate, name), path in files.items():
@@ -87,16 +87,16 @@ def main():
             failed.append(f"{holder} stands in no place of the layout")
         if kind == "names":
             failed += first(f"{holder} does more than name others", NAME.sub("", text).split("\n"))
-        if kind in ("definitions", "rooms"):
-            failed += citations(holder, text, definitions if kind == "definitions" else with_rooms)
+        if kind in ("definitions", "inner"):
+            failed += citations(holder, text, definitions if kind == "definitions" else with_inner)
             failed += first(f"{holder} holds a proof", filter(PROOF.search, text.split("\n")))
 
     sources = sorted((root / "crates").glob("*/src/**/*.rt"))
     inner, called = 0, set()
     for path in sources:
         holder, text = path.relative_to(root / "crates").as_posix(), code(path)
-        failed += citations(holder, text, with_rooms)
-        asked = {"requires", "Rooms", *re.split(r",\s*", ", ".join(ROOMS.findall(text)))}
+        failed += citations(holder, text, with_inner)
+        asked = {"requires", *re.split(r",\s*", ", ".join(INNER.findall(text)))} - {""}
         for public, is_open, name, rest in functions(text):
             if is_open:
                 called.add(name)
@@ -107,8 +107,8 @@ def main():
     failed += [f"{name} is a call of the oracle and no function" for name in CALLS.keys() - called]
 
     print(" ".join(f"{crate}/{name}" for crate, name in sorted(definitions)))
-    rooms = len(with_rooms) - len(definitions)
-    found = f"{len(definitions)} files of definitions, {rooms} of rooms, {len(sources)} sources, {inner} inner forms"
+    others = len(with_inner) - len(definitions)
+    found = f"{len(definitions)} files of definitions, {others} inner files, {len(sources)} sources, {inner} inner forms"
     print(f"{found}, {len(failed)} failed")
     sys.exit("\n".join(failed) or not definitions)
 

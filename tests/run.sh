@@ -10,7 +10,8 @@ if [ ! -x target/bin/sabercall ]; then
 fi
 archive=target/staticlib/libsaber.a
 work=$(mktemp -d)
-trap 'rm -rf "$work"' EXIT
+beside= # the process of the test that runs beside the others
+trap 'kill $beside 2>/dev/null || :; rm -rf "$work"' EXIT
 export PYTHONDONTWRITEBYTECODE=1 CARGO_TARGET_DIR=target/rust
 passed=0
 skipped=0
@@ -45,6 +46,22 @@ test_with() {
     needed=
 }
 
+# test_beside TITLE COMMAND..: the same as test_of, beside the tests that follow; `joined` waits for it.
+test_beside() {
+    test_of "$@" >"$work/beside" 2>&1 &
+    beside=$!
+}
+
+joined() {
+    wait "$beside" || {
+        cat "$work/beside"
+        exit 1
+    }
+    cat "$work/beside"
+    beside=
+    passed=$((passed + 1))
+}
+
 # c99 OUTPUT SOURCE..: builds a program with the archive.
 c99() {
     output=$1
@@ -52,6 +69,7 @@ c99() {
     cc -std=c99 -O2 -Wall -Wextra -pedantic -Werror -Iinclude -Ioracle -o "$work/$output" "$@" "$archive"
 }
 
+test_beside 'margins against the oracle' python3 tests/margins.py
 test_of 'the archive' rt staticlib saber
 test_of 'the header as C++17' \
     c++ -std=c++17 -Wall -Wextra -pedantic -Werror -fsyntax-only -Iinclude -x c++ tests/round_trip.c
@@ -76,7 +94,6 @@ test_of 'the comparison with the plain implementation, built' c99 agree tests/ag
 test_of 'random calls against the plain implementation' "$work/agree" 2000
 test_of 'sabercall under hostile input' python3 tests/hostile.py
 test_of 'sabercall on the known answers' python3 tests/kat.py
-test_of 'margins against the oracle' python3 tests/margins.py
 test_of 'programs whose input or output fails' python3 tests/failing.py
 test_of 'README: its shell lines, C program, table and numbers' python3 tests/readme.py
 test_with cargo 'README: its Rust example' python3 tests/readme.py rust
@@ -84,6 +101,7 @@ test_with cargo 'the Rust package' cargo test --offline --quiet --manifest-path 
 test_with cargo 'the Rust package, optimised' \
     cargo test --release --offline --quiet --manifest-path bindings/rust/Cargo.toml
 test_with cargo 'the archive where SABER_LIB_DIR says' python3 tests/lib_dir.py
+joined
 
 # The tests that were run or skipped against the list, each as `TITLE | TOOL`.
 awk -F ' *[|] *' 'rows && /^[|]/ { print $2 " | " $4 } /^[|]---/ { rows = 1 }' tests/README.md | sort >"$work/listed"
