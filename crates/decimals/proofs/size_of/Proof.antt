@@ -10,7 +10,7 @@ size-of-spec =
     (tie.spec
     (λ c. negative-size _ (c .before .fits .x) (c .if1 .taken) .fits)
     (λ c. negative-size _ (c .before .fits .x) (c .if1 .taken) .cast)
-    (λ c. negative-size _ (c .before .fits .x) (c .if1 .taken) .fits)
+    (λ c. negative-size _ (c .before .fits .x) (c .if1 .taken) .more)
     (λ c. negative-size _ (c .before .fits .x) (c .if1 .taken) .size)
     (λ c. plain-cast _ (c .before .fits .x) (c .if1 .left))
     (λ c. search needs))

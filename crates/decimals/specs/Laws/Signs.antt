@@ -36,11 +36,11 @@ module _ (n : ℕ) (some : n ≡ 0 → ⊥) (within : n ≤ 128) where
       let e : suc (n - 1) ≡ n = omega arith in
       rw (toZ-ofZ negated-fits, negated) (ap (λ (m : ℕ). negℤ (pos m)) e)
 
--- what the machine reckons as the size of a negative number z: y is -1 - z
+-- how the machine computes the magnitude of a negative number z: y is -1 - z
 pub record Sized (z y : ℤ) : Type 0 where
   pub fits : SFits w8 y
   pub cast : T (nonNeg (held y)) × Fits w8 (natAbs (held y))
-  pub fits : Fits w8 (natAbs (held y) + 1)
+  pub more : Fits w8 (natAbs (held y) + 1)
   pub size : natAbs (held y) + 1 ≡ natAbs z
 
 sized : (n : ℕ) (y : ℤ) → n < 128 → y ≡ pos n → Sized (negsuc n) y
@@ -50,7 +50,7 @@ sized n y h e =
     record {
       fits = rw e fits;
       cast = rw same (tt, record { fits = omega arith });
-      fits = rw same (record { fits = omega arith });
+      more = rw same (record { fits = omega arith });
       size = rw same (omega arith);
     }
 
