@@ -17,7 +17,7 @@ use Rattle.packing.specs.Laws.Packing.{recut-append}
 use Rattle.packing.specs.Laws.Polynomials.{length-packed, whole-back}
 
 -- A6: "for a general width and any place with 32 × width bytes left". One polynomial x, at a place of `out`
-module _ (w place : ℕ) (x out : List ℕ) (least : 1 ≤ w) (polynomial : length x ≡ 256) (fits : place + 32 * w ≤ length out) where
+module _ (w place : ℕ) (x out : List ℕ) (least : 1 ≤ w) (polynomial : length x ≡ 256) (enough : place + 32 * w ≤ length out) where
   abbrev new : List ℕ
   new = placed place (packed w x) out
 
@@ -39,9 +39,9 @@ module _ (w place : ℕ) (x out : List ℕ) (least : 1 ≤ w) (polynomial : leng
   pub unpacked-there : Below (2 ^ w) x → unpacked w (take (32 * w) (drop place new)) ≡ x
   unpacked-there below = rw there (whole-back w 1 least x (omega arith) below)
 
-  -- what `pack_at` asks is no more than a width of at most 16 besides
+  -- and what `pack_at` requires beyond this is a width of at most 16
   pub within : w ≤ 16 → PlaceLengths w (length x) place (length out)
-  within widest = record { least = least; widest = widest; polynomial = polynomial; fits = fits }
+  within widest = record { least = least; widest = widest; polynomial = polynomial; fits = enough }
 
 -- b packed right behind the l polynomials a: as all of them packed
 pub packed-more :
