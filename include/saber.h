@@ -22,7 +22,7 @@
 //   enough for saber_keygen, saber_encaps, saber_decaps and saber_encrypt, 24 for saber_decrypt, 20 for any other call, and 44 with the
 //   clearing.
 // - SET 2 READS A TABLE OF 256 BYTES AT PLACES THAT SECRET BYTES DECIDE, in saber_keygen, saber_encaps, saber_decaps, saber_encrypt and
-//   saber_gen_secret. Who can watch the processor's cache learns something of them. Sets 1 and 3 have no such address.
+//   saber_gen_secret. Whoever can watch the processor's cache learns something about them. Sets 1 and 3 have no such address.
 #ifndef SABER_H
 #define SABER_H
 
@@ -38,14 +38,14 @@ enum saber_answer {
     SABER_UNKNOWN_SET = 1,        // the set number is not 0, 1, 2 or 3, or a record's set byte not 1, 2 or 3
     SABER_UNKNOWN_NUMBER = 2,     // the packing width is not 1, 3, 4, 6, 10 or 13, or the modulus not 1024 or 8192
     SABER_SEED_LENGTH = 3,        // a seed, z or a message is not 32 bytes
-    SABER_PUBLIC_KEY_LENGTH = 4,  // the public key has not its set's length
-    SABER_SECRET_KEY_LENGTH = 5,  // the secret key, or plain secret, has not its set's length
-    SABER_CIPHERTEXT_LENGTH = 6,  // the ciphertext has not its set's length
+    SABER_PUBLIC_KEY_LENGTH = 4,  // the public key does not have its set's length
+    SABER_SECRET_KEY_LENGTH = 5,  // the secret key, or plain secret, does not have its set's length
+    SABER_CIPHERTEXT_LENGTH = 6,  // the ciphertext does not have its set's length
     SABER_INPUT_LENGTH = 7,       // an input list is not 256 coefficients, or a string to unpack not 32 x width bytes
     SABER_COEFFICIENT_RANGE = 8,  // a coefficient is not below its modulus
-    SABER_OUTPUT_LENGTH = 9,      // an output has not the length of its result
+    SABER_OUTPUT_LENGTH = 9,      // an output does not have the length of its result
     SABER_RECORD_MAP = 10,        // the record is empty, or its map has bits that no field has, has both doors, or lacks set or ciphertext
-    SABER_RECORD_LENGTH = 11,     // the record has not the length that its map and set byte require
+    SABER_RECORD_LENGTH = 11,     // the record does not have the length that its map and set byte require
     SABER_RECORD_DOOR = 12        // the record's door of 4 bytes is 65535 or less
 };
 
@@ -115,14 +115,14 @@ SABER_INLINED void saber_clear_stack(void) {
 
 // Key encapsulation
 
-// Makes a key pair from two seeds and z, the bytes of which rejected secrets are made, 32 bytes each. Who guesses the secret seed has the
-// secret key. Who guesses z tells a rejected secret from a shared one. A matrix seed used twice lets work against one key serve against the
-// other. Refusals: 1, 3, 9.
+// Makes a key pair from two seeds and z, the bytes of which rejected secrets are made, 32 bytes each. Whoever guesses the secret seed has
+// the secret key. Whoever guesses z can tell a rejected secret from a shared one. With a matrix seed used twice, work against one key also
+// serves against the other. Refusals: 1, 3, 9.
 uint8_t saber_keygen(uint32_t set, const uint8_t *matrix_seed, size_t matrix_seed_count, const uint8_t *secret_seed,
                      size_t secret_seed_count, const uint8_t *z, size_t z_count, uint8_t *public_key, size_t public_key_count,
                      uint8_t *secret_key, size_t secret_key_count);
 
-// Encapsulation: from a public key and a seed of 32 bytes, a ciphertext and the shared secret of 32 bytes. Who guesses the seed has the
+// Encapsulation: from a public key and a seed of 32 bytes, a ciphertext and the shared secret of 32 bytes. Whoever guesses the seed has the
 // shared secret, and a seed used twice with one key gives the same secret twice. Refusals: 1, 3, 4, 9.
 uint8_t saber_encaps(uint32_t set, const uint8_t *public_key, size_t public_key_count, const uint8_t *seed, size_t seed_count,
                      uint8_t *ciphertext, size_t ciphertext_count, uint8_t *shared_secret, size_t shared_secret_count);
@@ -132,8 +132,8 @@ uint8_t saber_encaps(uint32_t set, const uint8_t *public_key, size_t public_key_
 uint8_t saber_decaps(uint32_t set, const uint8_t *secret_key, size_t secret_key_count, const uint8_t *ciphertext,
                      size_t ciphertext_count, uint8_t *shared_secret, size_t shared_secret_count);
 
-// Where the public key starts in a secret key of so many bytes, and how many bytes it has. Both are 0 where the set is unknown or the
-// count is not the set's.
+// Where the public key starts in a secret key of secret_key_count bytes, and how many bytes it has. Both are 0 where the set is unknown or
+// the count is not the set's.
 size_t saber_public_key_offset(uint32_t set, size_t secret_key_count);
 size_t saber_public_key_length(uint32_t set, size_t secret_key_count);
 
@@ -145,11 +145,11 @@ static inline const uint8_t *saber_public_key_of(uint32_t set, const uint8_t *se
     return secret_key + saber_public_key_offset(set, secret_key_count);
 }
 
-// The encryption beneath. By itself it withstands no chosen ciphertexts: who has some of his own decrypted and sees the messages finds the
-// plain secret. Programs that exchange secrets use encapsulation.
+// The encryption that encapsulation is built on. By itself it is not safe against chosen ciphertexts: whoever can have ciphertexts of their
+// own decrypted and sees the messages finds the plain secret. Programs that exchange secrets use encapsulation.
 
-// Encrypts a message of 32 bytes with a secret seed of 32 bytes. Who guesses the seed reads the message, and a seed used twice with one key
-// shows in which bits two messages differ. Refusals: 1, 3, 4, 9.
+// Encrypts a message of 32 bytes with a secret seed of 32 bytes. Whoever guesses the seed reads the message, and a seed used twice with one
+// key shows in which bits two messages differ. Refusals: 1, 3, 4, 9.
 uint8_t saber_encrypt(uint32_t set, const uint8_t *public_key, size_t public_key_count, const uint8_t *message, size_t message_count,
                       const uint8_t *seed, size_t seed_count, uint8_t *ciphertext, size_t ciphertext_count);
 
@@ -168,11 +168,11 @@ uint8_t saber_write_record(uint8_t has_door, uint32_t door, uint8_t has_time, ui
                            size_t ciphertext_count, uint8_t *record, size_t record_count);
 
 // Reads a record and copies its ciphertext out. On answer 0 *has_door and *has_time are 1 or 0; where one is 0 the number after it is left
-// as it was, so that a missing field never reads as 0; *set is 1, 2 or 3. On a refusal no flag, number or byte changes. Who does not know
-// the set finds the ciphertext's count from the record's: less 2, less 2 more if record[0] has bit 0, less 4 more if it has bit 4, less 8
-// more if it has bit 1. Where that is below 0 or more than can be lent, no read is accepted, and 0 bytes may be lent. The record's length
-// is asked for twice, whether there is a set byte and, once that is known, whether all is there and no more. *door has 32 bits: a program
-// that was compiled when it had 16 has to be compiled again. Refusals: 10, 11, 1, 11, 12, 9.
+// as it was, so that a missing field never reads as 0; *set is 1, 2 or 3. On a refusal no flag, number or byte changes. Whoever does not
+// know the set finds the ciphertext's count from the record's: less 2, less 2 more if record[0] has bit 0, less 4 more if it has bit 4,
+// less 8 more if it has bit 1. Where that is below 0 or more than can be lent, no read is accepted, and 0 bytes may be lent. The record's
+// length is asked for twice, whether there is a set byte and, once that is known, whether all is there and no more. *door has 32 bits: a
+// program that was compiled when it had 16 has to be compiled again. Refusals: 10, 11, 1, 11, 12, 9.
 uint8_t saber_read_record(const uint8_t *record, size_t record_count, uint8_t *has_door, uint32_t *door, uint8_t *has_time,
                           uint64_t *time, uint32_t *set, uint8_t *ciphertext, size_t ciphertext_count);
 
@@ -182,7 +182,7 @@ uint8_t saber_read_record(const uint8_t *record, size_t record_count, uint8_t *h
 uint8_t saber_gen_matrix(uint32_t set, const uint8_t *seed, size_t seed_count, uint16_t *matrix, size_t matrix_count);
 
 // The secret of a seed of 32 bytes: 256 x rank signed coefficients, in -mu/2 .. mu/2: -5 .. 5 in set 1, -4 .. 4 in set 2, -3 .. 3 in
-// set 3. No residue is written: who packs or multiplies coefficients first adds the modulus to each negative one, 8192, or 1024 for a
+// set 3. No residue is written: before packing or multiplying, a caller adds the modulus to each negative one, 8192, or 1024 for a
 // product modulo 1024. Refusals: 1, 3, 9.
 uint8_t saber_gen_secret(uint32_t set, const uint8_t *seed, size_t seed_count, int8_t *secret, size_t secret_count);
 

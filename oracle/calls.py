@@ -1,7 +1,7 @@
-"""The calls of documents 01 and 02, a row each: what a call takes, hands back and writes, and what it asks.
+"""The calls of documents 01 and 02, a form each: what a call takes, hands back and writes, and what it asks.
 
 What is known of a call elsewhere (its answer, its line in sabercall's notation, its exported function, arguments that
-are sound or refused) follows from its row and from the roles of its parameters. What it writes is reckoned by the
+are sound or refused) follows from its form and from the roles of its parameters. What it writes is computed by the
 function of its name in saber.py.
 """
 
@@ -99,7 +99,7 @@ class Parameter(NamedTuple):
 class Call(NamedTuple):
     name: str
     inputs: list[Parameter]
-    handed: list[Parameter]  # numbers that it hands back besides its answer
+    handed: list[Parameter]  # numbers that it hands back, other than its answer
     outputs: list[Parameter]  # a lookup has none: it hands back a part of an input, and no number
     questions: tuple[int]
 
@@ -174,7 +174,7 @@ class Call(NamedTuple):
 
 
 def call(name, inputs, outputs, *questions, handed=""):
-    """A row. A parameter is written as its name, which is its role's too, or as `name: role`."""
+    """A form. A parameter is written as its name, which is its role's too, or as `name: role`."""
 
     def parameters(text, question):
         words = [word.split(": ") for word in text.split(", ") if word]

@@ -1,7 +1,7 @@
 """Writes and checks what the programs are run on and what they must print.
 
     python3 oracle/requests.py write     stores the requests and the answers
-    python3 oracle/requests.py check     reckons them again and compares
+    python3 oracle/requests.py check     computes them again and compares
 
 `--to DIR` takes another root than the repository's.
 The answers are the oracle's. An answer that is known beforehand (a case of document 01, a published
@@ -235,7 +235,7 @@ def product_section(name):
             yield ask(name, modulus, a, draw_list(f"{name} {modulus} {turn} b", modulus), lent)
         yield f"# {name}, modulus {modulus}: all the largest, all 0, monomials, one times a"
         a = draw_list(f"{name} {modulus} a", modulus)
-        square = [(2 * k - 254) % modulus for k in range(256)]  # k + 1 products of -1 and -1, less 255 - k
+        square = [(2 * k - 254) % modulus for k in range(256)]  # k + 1 products of -1 and -1, minus 255 - k
         yield ask(name, modulus, [top] * 256, [top] * 256, lent, stated=(0, [square]))
         yield ask(name, modulus, a, [top] * 256, lent)
         yield ask(name, modulus, a, ZERO, lent, stated=(0, [ZERO]))
@@ -782,7 +782,7 @@ def signed_lines(answer, *words):
 
 
 def filled(piece, length):
-    """A signed list of so many bytes: 0, with zeros in front as they are needed, then the piece over and over."""
+    """A signed list of `length` bytes: 0, with zeros in front as needed, then the piece repeated."""
     return (piece * ((length - 1) // len(piece))).rjust(length, b"0")
 
 

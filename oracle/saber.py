@@ -2,9 +2,9 @@
 report, as document 02 has them.
 
 A polynomial is a list of 256 whole numbers, coefficient 0 first; a vector is a list of polynomials,
-a matrix a list of rows. Byte strings are `bytes`. All of this reckons with sound values only and takes a
-set's row for its number; the questions that come before are in calls.py, where a call has the name of its
-function here.
+a matrix a list of rows. Byte strings are `bytes`. All functions here take sound values only, and a set's
+parameters where a call takes its number; the questions that come before are in calls.py, where a call has
+the name of its function here.
 """
 
 import functools
@@ -182,7 +182,7 @@ def matrix_of(set, seed):
 
 
 def sampled(string, mu):
-    """Signed coefficients: the ones of one piece of mu/2 bits less the ones of the piece that follows."""
+    """Signed coefficients: the ones of one piece of mu/2 bits minus the ones of the piece that follows."""
     ones = [piece.bit_count() for piece in unpack(mu // 2, string)]
     return [first - second for first, second in zip(ones[0::2], ones[1::2])]
 
@@ -201,7 +201,7 @@ def secret_of(set, seed):
 
 
 def masked(set, v, bit):
-    """w: the message bit laid upon v'."""
+    """w: v', to which a message bit of 1 adds 512."""
     return (v + 512 * bit) % P
 
 
@@ -362,7 +362,7 @@ def set_place(map):
 
 
 def write_record(door, time, set, ciphertext):
-    """The record of an entry, with the number from 1 on by which the set goes."""
+    """The record of an entry, with the set's own number, 1 to 3."""
     [number] = [number for number, row in SETS.items() if row == set]
     entry = dict(door=door, time=time, set=number, ciphertext=ciphertext)
     fields = fields_for(door, time)
@@ -372,7 +372,7 @@ def write_record(door, time, set, ciphertext):
 
 
 def set_in(record):
-    """The set that a record's set byte names. None: its map is none, the byte lacks, or it names none, as 0 does."""
+    """The set that a record's set byte names; None where the map is invalid, or that byte is missing or names none."""
     if not record or not is_map(record[0]):
         return None
     place = set_place(record[0])
@@ -399,7 +399,7 @@ def holds_narrow_door(record):
 
 
 def error(exact):
-    """The rounding error of a vector: 8 times the rounded less the exact, modulo 8192 into -3 .. 4."""
+    """The rounding error of a vector: 8 times the rounded minus the exact, modulo 8192 into -3 .. 4."""
     return [[(8 * r - x + 3) % Q - 3 for r, x in zip(round(xs), xs)] for xs in exact]
 
 
@@ -427,7 +427,7 @@ GROUP, MOST_GROUPS = 96, 4096
 
 
 def figures(set, group):
-    """8 times M less the largest size of a coefficient of N; and how many bits of m decryption gives wrong."""
+    """8 times M minus the norm of N, its largest magnitude; and how many bits of m decryption gives wrong."""
     N, m, message = outcome(set, group[:32], group[32:64], group[64:])
     wrong = sum(sent != read for sent, read in zip(unpack(1, m), unpack(1, message)))
     return 8 * set.margin - max(map(abs, N)), wrong

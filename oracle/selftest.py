@@ -149,7 +149,7 @@ def split_product(a, b):
 
 
 def folded(c):
-    """The coefficients of 1, X, .. less those that stand n places on, as X to the n is -1."""
+    """The coefficients of 1, X, .. minus those that stand n places on, as X to the n is -1."""
     n = len(c) // 2
     return [x - y for x, y in zip(c[:n], c[n:])]
 
@@ -179,7 +179,7 @@ def rounding():
     r, [e] = saber.round(every), saber.error([every])
     check("all rounded values lie below 1024", set(r) == set(range(1024)))
     check("all errors lie in -3 .. 4", set(e) == set(range(-3, 5)))
-    check("an error is 8 times the rounded less the exact", all((8 * r[x] - x - e[x]) % 8192 == 0 for x in every))
+    check("an error is 8 times the rounded minus the exact", all((8 * r[x] - x - e[x]) % 8192 == 0 for x in every))
 
 
 def sampling():
@@ -354,7 +354,7 @@ def stepwise(set, group):
         return value([x >> i & 1 for x in numbers for i in range(width)]).to_bytes(len(numbers) * width // 8, "little")
 
     def less(exact):
-        """8 times the rounded less the exact, by the remainder that rounding leaves."""
+        """8 times the rounded minus the exact, by the remainder that rounding leaves."""
         return [[-(x % 8) if x % 8 < 4 else 8 - x % 8 for x in xs] for xs in exact]
 
     def secret(seed):
@@ -413,7 +413,7 @@ def margins():
         return b"".join(i.to_bytes(96, "little") for i in range(count))
 
     def prints(label, given, text, figures=None):
-        """With no figures, none are to be reckoned."""
+        """With no figures, none are to be computed."""
         check(f"report, {label}", saber.margin_report(given, figures) == text.encode())
 
     header = "set cases least wrong rest\n"
@@ -435,7 +435,7 @@ def margins():
         for length in (0, 1, 95, 96, 192):
             prints(f"byte {byte}, then {length}", bytes([byte]) + bytes([1]) * length, "refused 1\n")
 
-    # The more groups are read, the less the least and the more wrong bits.
+    # With each group that is read the smallest margin falls and the number of wrong bits grows.
     asked = []
 
     def falling(set, group):

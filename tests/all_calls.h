@@ -20,7 +20,7 @@ static uint8_t record[14 + FIRESABER_CIPHERTEXT_BYTES], has_door, has_time;
 static uint64_t hour;
 static uint32_t door, number;
 
-// A row is the name of a call, the secrets that it knows, and its arguments.
+// A form is the name of a call, the secrets that it knows, and its arguments.
 enum { SECRET_SEED = 1, Z = 2, KEY = 4, SEED = 8, M = 16, K = 32, R = 64, SHARED = 128 };
 enum { DECAPS = KEY | Z | M | K | R | SHARED };
 #define ALL(x) x, sizeof(x) / sizeof *(x)

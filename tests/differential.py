@@ -48,7 +48,7 @@ def damaged(draw, value):
 
 
 def odd_length(draw, kind, value):
-    """The value cut or drawn out, often by one."""
+    """The value made shorter or longer, often by one."""
     right = len(value)
     length = draw.choice((0, 1, max(right - 1, 0), right + 1, 2 * right, draw.randrange(right + 65)))
     return value[:length] + any_content(draw, kind, max(length - right, 0))

@@ -33,13 +33,13 @@ def any_length(draw):
 
 
 def any_number(draw, bits):
-    """A number of so many bits, which are more than 16, often at an edge and on either side of the last short door."""
+    """A number of `bits` bits, which are more than 16; often at an edge, or on either side of the last short door."""
     edges = (0, 1, 255, 256, 65535, 65536, 1 << draw.randrange(bits), (1 << bits) - 1)
     return draw.choice((*edges, draw.getrandbits(16), draw.getrandbits(bits)))
 
 
 def any_content(draw, kind, length, elements=None):
-    """A string or list of so many elements, of any that its kind has or of those that are given."""
+    """A string or list of `length` elements, drawn from those that are given or else from all that its kind has."""
     return draw.randbytes(length) if kind == "bytes" else draw.choices(elements or ELEMENTS[kind], k=length)
 
 

@@ -93,13 +93,13 @@ def signed_lists(draw):
 
 
 def filled(start, piece, length):
-    """A line of so many bytes that ends in a signed list: 0, with zeros in front as needed, and a piece repeated."""
+    """A line of `length` bytes that ends in a signed list: 0, with zeros in front as needed, and a piece repeated."""
     room = length - len(start)
     return start + (piece * ((room - 1) // len(piece))).rjust(room, b"0")
 
 
 def long_lists(length):
-    """Lines with signed lists: of a piece over and over, one with as many numbers as set 1 takes, and with faults."""
+    """Lines with signed lists: of a repeated piece, one with as many numbers as set 1 takes, and with faults."""
     refused, sampled = b"gen_secret 4 - ", b"gen_secret 1 " + b"5a" * 32 + b" "
     for start, piece in itertools.product((refused, sampled), (b",0", b",-4", b",-128", b",128", b",", b",-", b"-")):
         yield filled(start, piece, length)

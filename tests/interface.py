@@ -3,10 +3,10 @@
     python3 tests/interface.py
 
 Constants are held to the oracle's sets, functions and their parameters to crates/saber/src/lib.rt, and those to the
-oracle's calls. Nothing may lack and nothing may be there besides. So are the refusals that the header names, and the
-lists of calls in tests/all_calls.h, tests/secrets.c and tests/unread.c. What the package says of a refusal is held to
-the header's words, and the numbers in the prose of both to the oracle (prose.py). Of the stack, which the oracle does
-not know, header and package say the same, in whole pages. Then each text is changed in one number, sign, type or
+oracle's calls. Nothing may be missing, and nothing else may be there. So it is with the refusals that the header names
+and the lists of calls in tests/all_calls.h, tests/secrets.c and tests/unread.c. The package's words of a refusal are
+held to the header's, and the numbers in the prose of both to the oracle (prose.py). About the stack, which the oracle
+does not know, header and package say the same, in whole pages. Then each text is changed in one number, sign, type or
 `const`, in the order of two parameters or by a declaration, and every change has to be found. It exits with 1 on a
 difference.
 
@@ -215,7 +215,7 @@ def header_entries(text):
 
 
 def expected_of_header(functions, header):
-    """A lookup is an inline function besides, which stores the count of what it returns. Two more clear the stack."""
+    """A lookup is also an inline function, which stores the count of what it returns. Two more clear the stack."""
     found = header_constants() | header_stack(header) | passed_entries(functions)
     for name in ("saber_overwrite_stack", "saber_clear_stack"):
         found |= entries(name, [], "void")
@@ -227,7 +227,7 @@ def expected_of_header(functions, header):
 
 # The package
 
-# What its macro makes of a row, which names a number, inputs and outputs: declaration, safe function and call. Calls
+# What its macro makes of a form, which names a number, inputs and outputs: declaration, safe function and call. Calls
 # with numbers that may be missing or are handed back are written out.
 MACRO = (
     "$(fn $export($($number: u32,)? $($input: *const $from, _: usize,)+ $($output: *mut $to, _: usize),+) -> u8;)+",
@@ -323,7 +323,7 @@ def expected_of_package(functions, header):
     return found | package_constants() | package_stack(header) | passed_entries(functions)
 
 
-# What goes by the table besides
+# What else follows the oracle's table
 
 
 def listed_entries(texts):

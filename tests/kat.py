@@ -3,8 +3,8 @@
     python3 tests/kat.py [FILE..]         runs the files, or those of vectors/kat
     python3 tests/kat.py --write DIR      writes files of that format, made by the oracle
 
-Of each difference it says which reading of documents 01 and 02 it can be laid to: the oracle, with that reading
-reversed, gives the entry's answer. It exits with 1 on a difference, and where it does not find one that it plants in a
+For each difference it says which reading of documents 01 and 02 explains it: the oracle, with that reading reversed,
+gives the entry's answer. It exits with 1 on a difference, and where it does not find one that it plants in a
 file's last answer. `--sabercall PATH` takes another program than target/bin's.
 """
 
@@ -37,17 +37,17 @@ def differing(asked, given):
     return [check for check, answer in zip(asked, given, strict=True) if answer != check.expected]
 
 
-def laid_to(check):
-    """The choices of readings that a difference can be laid to."""
+def explained_by(check):
+    """The choices of readings that explain a difference."""
     return explanations(lambda: notation.answer_line(check.request) == check.expected)
 
 
 def in_words(choices):
     if not choices:
-        return "laid to no reading"
+        return "and no reading explains it"
     if choices == [()]:
-        return "laid to the library: the oracle agrees with the entry"
-    return "laid to: " + "; or ".join(" and ".join(names) for names in choices)
+        return "and the oracle agrees with the entry: the library is wrong"
+    return "explained by: " + "; or ".join(" and ".join(names) for names in choices)
 
 
 def run(program, path):
@@ -57,7 +57,7 @@ def run(program, path):
     given = answers(program, [check.request for check in asked])
     different = differing(asked, given)
     for check in different:
-        print(f"{path.name}: {check.label} differs, {in_words(laid_to(check))}", flush=True)
+        print(f"{path.name}: {check.label} differs, {in_words(explained_by(check))}", flush=True)
     if asked[-1] not in differing(asked, [*given[:-1], turned(asked[-1].expected)]):
         sys.exit(f"{path.name}: a planted difference was not found")
     counts = f"{len(entries)} entries, {len(asked)} calls, {len(different)} differences"

@@ -15,9 +15,9 @@ from samples import with_bit_turned
 
 
 def differences(entry):
-    """Each call in which an entry differs from the oracle, with what that is laid to."""
+    """Each call in which an entry differs from the oracle, with what explains it."""
     found = [check for check in checks("", entry) if notation.answer_line(check.request) != check.expected]
-    return {check.label.strip(): kat.laid_to(check) for check in found}
+    return {check.label.strip(): kat.explained_by(check) for check in found}
 
 
 def reversed_entry(number, seed, name):
@@ -41,14 +41,14 @@ def main():
         if differences(honest):
             failed.append(f"set {number}: the oracle's own entry differs")
         if differences(honest._replace(ss=with_bit_turned(honest.ss, 0))) != {"encaps": [], "decaps": []}:
-            failed.append(f"set {number}: a damaged shared secret is laid to a reading")
+            failed.append(f"set {number}: a reading explains a damaged shared secret")
         for name in readings.READINGS:
-            laid = differences(reversed_entry(number, seed, name))
+            explained = differences(reversed_entry(number, seed, name))
             if name in readings.DAMAGED:
                 # Its ciphertext is damaged, so it is not the one that encapsulation makes.
-                laid.pop("encaps")
-            if not laid or any(choices != [(name,)] for choices in laid.values()):
-                failed.append(f"set {number}: {name}: laid to {laid}")
+                explained.pop("encaps")
+            if not explained or any(choices != [(name,)] for choices in explained.values()):
+                failed.append(f"set {number}: {name}: explained by {explained}")
     print(f"{len(saber.SETS) * len(readings.READINGS)} reversed readings, {len(failed)} failed")
     sys.exit("\n".join(failed) or None)
 

@@ -1,4 +1,4 @@
-"""The library through its C interface, for the random tests: calls with guard bytes about all that is lent.
+"""The library through its C interface, for the random tests: calls with guard bytes around all that is lent.
 
 For a test of these guards, a call can be made to write where it may not.
 """
@@ -162,7 +162,7 @@ def forbidden(call, arguments):
 
 
 def straying(function, pointer, offset, bit):
-    """The function, which turns besides a bit at an offset from one of the pointers that it is passed."""
+    """The function, which also turns a bit at an offset from one of the pointers that it is passed."""
 
     def stray(*passed):
         answer = function(*passed)

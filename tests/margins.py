@@ -2,9 +2,9 @@
 
     python3 tests/margins.py [--seed N] [--count N] [--program FILE]
 
-The oracle reckons the figures of COUNT groups of each set that are drawn, on all processors. The program is given them
-one by one, by twos, and to 4,096 and beyond (over and over where COUNT does not suffice), with bytes over; first bytes
-that are refused; input that comes in pieces or that stays open; and files of which some is to be left. The first
+The oracle computes the figures of COUNT random groups of each set, on all processors. The program is given them one by
+one, in pairs, and up to 4,096 and beyond (repeated where COUNT is smaller), with bytes left over; first bytes that are
+refused; input that comes in pieces or that stays open; and files that must not be read to their end. The first
 difference ends the run with 1, and so does a planted one that is not found. The seed that is printed repeats a run.
 """
 
@@ -34,7 +34,7 @@ SECONDS = 60
 # Inputs
 
 
-def reckoned(draw, count):
+def computed(draw, count):
     """Groups of each set, enough for one that is not read, and the figures of all."""
     drawn = [(set, draw.randbytes(saber.GROUP)) for set in saber.SETS.values() for _ in range(count)]
     with multiprocessing.Pool() as pool:
@@ -70,7 +70,7 @@ def refused_inputs(groups):
 
 
 def cut(given, sizes):
-    """The input in pieces of these sizes, over and over."""
+    """The input in pieces of these sizes, in turn."""
     for size in itertools.cycle(sizes):
         if not given:
             return
@@ -156,7 +156,7 @@ def find_planted(program, figures, text):
 def main():
     given = options("margins", MOST + 1, "groups of each set", program="target/bin/marginreport")
     draw = random.Random(given.seed)
-    groups, figures = reckoned(draw, given.count)
+    groups, figures = computed(draw, given.count)
     trial = Trial(given.program, figures)
     try:
         for text in refused_inputs(groups[1]):

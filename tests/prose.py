@@ -1,8 +1,8 @@
 """The prose of the C header and the Rust package against the oracle.
 
-Prose is what stands in comments and strings. `sentences` has those with a number that a program relies on, each number
-had from the oracle, or, of thread stacks, from the test that measures them. A text lacks none of them, and no number of
-its prose stands outside of one. `changed_numbers` gives a text with one such number changed, for every one of them.
+Prose is what stands in comments and strings. `sentences` has those with a number that a program relies on. Each number
+is the oracle's or, for thread stacks, that of the test that measures them. A text has all of these sentences, and no
+number of its prose stands outside them. `changed_numbers` gives the text with one number changed, for every number.
 tests/interface.py runs all of this, and tests/readme.py does the same for README.md.
 """
 
@@ -220,7 +220,7 @@ def sentences():
             f"Measured under glibc on x86-64, with all that: {scheme} KiB are enough for saber_keygen, saber_encaps,"
             f" saber_decaps and saber_encrypt, {decrypt} for saber_decrypt, {other} for any other call, and {cleared}"
             " with the clearing",
-            # Numbers that no program relies on but as none
+            # Zeros that mean none
             "also where its count is 0",
             "Both are 0 where the set is unknown",
             "0 where the lookup refuses",

@@ -1,7 +1,7 @@
 """The readings of documents 01 and 02 that decide what a known-answer entry holds; the oracle can reverse each of them.
 
-docs/READINGS.md says of each what the submission has in its place, and tests/readings_table.py holds that table to this
-one. A reversal is laid around the oracle's own functions, so that several can be in force at once.
+docs/READINGS.md says of each what the submission has in its place, and tests/readings_table.py compares that table with
+this one. A reversal wraps the oracle's own functions, so that several can be in force at once.
 """
 
 import contextlib

@@ -47,14 +47,14 @@ def drawn_out(draw, record, other):
 
 
 def spliced(draw, record, other):
-    """The start of one and the end of the other, at any places or so that the length is the one's or the other's."""
+    """The start of one and the end of the other, cut at any places or so that the length is that of one of them."""
     start = draw.choice((draw.randrange(HEAD + 1), draw.randrange(len(record))))
     end = draw.choice((start, max(len(other) - len(record) + start, 0), draw.randrange(len(other))))
     return record[:start] + other[end:]
 
 
 def other_map(draw, record, other):
-    """Any map that is one, the same but for bit 4, which often makes both doors, or any byte."""
+    """Any valid map; or the same map with bit 4 turned, which often gives both doors; or any byte."""
     return bytes([draw.choice((draw.choice(MAPS), record[0] ^ 16, draw.randrange(256)))]) + record[1:]
 
 
@@ -74,7 +74,7 @@ def narrow_wide_door(draw, record, other):
 
 
 def any_bytes(draw, record, other):
-    """Any bytes behind any map that is one, wide doors more often, with a set byte of 0 to 4; or any bytes at all.
+    """Any bytes behind any valid map, wide doors more often, with a set byte of 0 to 4; or any bytes at all.
 
     Often with a sound length.
     """

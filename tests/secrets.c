@@ -1,12 +1,13 @@
 // secrets SET: every call on content that is marked as undefined, for valgrind's memcheck, which then reports each
-// jump and each address that depends on it. tests/secrets.py runs this and holds the reports against a list.
+// jump and each address that depends on it. tests/secrets.py runs this and compares the reports with a list.
 //
 // Seeds, messages, hash inputs, coefficients, and doors and times of records are marked, of a door its lower two bytes:
 // the upper ones decide which field it has. Keys and ciphertexts are what the calls make of them, the public ones too.
-// Outputs are lent defined, so what is undefined afterwards came from a mark: each of their elements has to be, all but
-// a record's map and set bytes and a wide door's upper bytes, from which a reader's answer follows, and secrets that
-// are read from a table. No answer may be but where Q8 asks about content. Prints each call with the number of reports
-// that it gave. tests/interface.py holds the calls, and what their answers follow from, against the oracle's table.
+// Outputs are lent defined, so what is undefined afterwards came from a mark. Each of their elements has to be so then,
+// except a record's map and set bytes and a wide door's upper bytes, from which a reader's answer follows, and secrets
+// that are read from a table. No answer may be undefined, except where Q8 asks about content. Prints each call with the
+// number of reports that it gave. tests/interface.py compares the calls, and what their answers follow from, with the
+// oracle's table.
 #include "check.h"
 #include "sets.h"
 #include <stdio.h>

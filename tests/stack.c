@@ -11,20 +11,20 @@
 #include <string.h>
 #include <sys/wait.h>
 #include <unistd.h>
-#ifdef WITHOUT_ATTRIBUTES // the header as a compiler reads it that has neither gcc's attributes nor MSVC's
+#ifdef WITHOUT_ATTRIBUTES // the header as read by a compiler with neither gcc's attributes nor MSVC's
 #undef __GNUC__
 #endif
 #include "all_calls.h"
 
 enum { WINDOW = 16 }; // bytes in a row that are looked for
-enum { OWN = 8192 };  // bytes of its own that a function has that calls and clears
+enum { OWN = 8192 };  // bytes of its own in a function that calls and clears
 enum { EDGE = 128 };  // bytes below them for the rest of its frame, a return address and saved registers
 
 static int clearing;
 static uint8_t answer;
 static uintptr_t frame; // where the caller's own bytes start
 
-// The clearing is the last thing that such a function does, when bytes of its own are out of scope that are more than
+// The clearing is the last thing that such a function does, when more bytes of its own are out of scope than
 // SABER_STACK_BYTES has to spare. So a compiler that gives up the frame first, and jumps to what clears, is noticed.
 #define DEFINE(name, known, ...)                \
     static void call_##name(void) {             \

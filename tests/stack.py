@@ -2,9 +2,9 @@
 
     python3 tests/stack.py
 
-Builds tests/stack.c with cc and, where it is there, clang, at each of LEVELS, as it is and with the header as compilers
-read it that have neither gcc's attributes nor MSVC's, and once with the library as a shared one. Functions are bound
-when they are first called. It runs each program, which looks for itself, and exits with 1 at the first that fails.
+Builds tests/stack.c with cc and, where it is there, clang, at each of LEVELS, as it is and with the header as read by a
+compiler with neither gcc's attributes nor MSVC's, and once with the library as a shared one. Functions are bound when
+they are first called. It runs each program, which does the looking, and exits with 1 at the first that fails.
 """
 
 import os

@@ -1,8 +1,8 @@
-// The least stack of a thread for each call, against what include/saber.h names, SABER_THREAD_STACK_BYTES among it. A
-// thread of a process of its own makes the call as the first one of the process, so that the dynamic loader binds
-// functions on the same stack. Stacks grow by 4 KiB until the process ends without a fault: for the call alone, and
-// with saber_clear_stack() right after it. Under glibc the thread's descriptor and its thread-local storage are on the
-// stack too.
+// The least stack of a thread for each call, against the numbers in include/saber.h, one of which is
+// SABER_THREAD_STACK_BYTES. A thread of a process of its own makes the call as the first one of the process, so that
+// the dynamic loader binds functions on the same stack. Stacks grow by 4 KiB until the process ends without a fault:
+// for the call alone, and with saber_clear_stack() right after it. Under glibc the thread's descriptor and its
+// thread-local storage are on the stack too.
 #define _XOPEN_SOURCE 700
 #include "all_calls.h"
 #include "check.h"

@@ -19,7 +19,7 @@ static const struct {
     {"FireSaber", SABER_SET_FIRESABER, FIRESABER_RANK, 6},
 };
 
-// The ones of a piece of mu/2 bits less those of the piece that follows.
+// The ones of a piece of mu/2 bits minus those of the piece that follows.
 static void weigh(const uint8_t *bytes, int mu, int8_t *secret, int count) {
     uint32_t buffer = 0, piece = (1u << mu / 2) - 1;
     int held = 0;

@@ -10,7 +10,7 @@
 //! - **Secrets stay on the stack.** No call clears what it leaves below its caller's frame, less than [`STACK`] bytes. To clear it, call
 //!   [`clear_stack`] right after the call, from the same function, or run the calls on a stack of your own and erase that.
 //! - **Set 2 reads a table of 256 bytes at places that secret bytes decide**, in [`keygen`], [`encaps`], [`decaps`], [`encrypt`] and
-//!   [`gen_secret`]. Who can watch the processor's cache learns something of them. Sets 1 and 3 have no such address.
+//!   [`gen_secret`]. Whoever can watch the processor's cache learns something about them. Sets 1 and 3 have no such address.
 #![no_std]
 
 use core::fmt;
@@ -78,14 +78,14 @@ impl fmt::Display for Refusal {
             Refusal::UnknownSet => "the set number is not 0, 1, 2 or 3, or a record's set byte not 1, 2 or 3",
             Refusal::UnknownNumber => "the packing width is not 1, 3, 4, 6, 10 or 13, or the modulus not 1024 or 8192",
             Refusal::SeedLength => "a seed, z or a message is not 32 bytes",
-            Refusal::PublicKeyLength => "the public key has not its set's length",
-            Refusal::SecretKeyLength => "the secret key, or plain secret, has not its set's length",
-            Refusal::CiphertextLength => "the ciphertext has not its set's length",
+            Refusal::PublicKeyLength => "the public key does not have its set's length",
+            Refusal::SecretKeyLength => "the secret key, or plain secret, does not have its set's length",
+            Refusal::CiphertextLength => "the ciphertext does not have its set's length",
             Refusal::InputLength => "an input list is not 256 coefficients, or a string to unpack not 32 x width bytes",
             Refusal::CoefficientRange => "a coefficient is not below its modulus",
-            Refusal::OutputLength => "an output has not the length of its result",
+            Refusal::OutputLength => "an output does not have the length of its result",
             Refusal::RecordMap => "the record is empty, or its map has bits that no field has, has both doors, or lacks set or ciphertext",
-            Refusal::RecordLength => "the record has not the length that its map and set byte require",
+            Refusal::RecordLength => "the record does not have the length that its map and set byte require",
             Refusal::RecordDoor => "the record's door of 4 bytes is 65535 or less",
         })
     }
@@ -123,7 +123,7 @@ macro_rules! calls {
             $(#[$doc])*
             pub fn $name($($number: u32,)? $($input: &[$from],)+ $($output: &mut [$to]),+) -> Result<(), Refusal> {
                 // SAFETY: the pointers and counts are of slices, and `&mut` keeps the outputs apart from all else. The function reads
-                // and writes nothing besides.
+                // and writes nothing else.
                 result(unsafe { $export($($number,)? $($input.as_ptr(), $input.len(),)+ $($output.as_mut_ptr(), $output.len()),+) })
             }
         )+
@@ -131,27 +131,27 @@ macro_rules! calls {
 }
 
 calls! {
-    /// Makes a key pair from two seeds and z, the bytes of which rejected secrets are made, 32 bytes each. Who guesses the secret seed has
-    /// the secret key. Who guesses z tells a rejected secret from a shared one. A matrix seed used twice lets work against one key serve
-    /// against the other.
+    /// Makes a key pair from two seeds and z, the bytes of which rejected secrets are made, 32 bytes each. Whoever guesses the secret seed
+    /// has the secret key. Whoever guesses z can tell a rejected secret from a shared one. With a matrix seed used twice, work against one
+    /// key also serves against the other.
     keygen = saber_keygen [set] (matrix_seed: u8, secret_seed: u8, z: u8) => (public_key: u8, secret_key: u8);
-    /// Encapsulation: from a public key and a seed of 32 bytes, a ciphertext and the shared secret of 32 bytes. Who guesses the seed has
-    /// the shared secret, and a seed used twice with one key gives the same secret twice.
+    /// Encapsulation: from a public key and a seed of 32 bytes, a ciphertext and the shared secret of 32 bytes. Whoever guesses the seed
+    /// has the shared secret, and a seed used twice with one key gives the same secret twice.
     encaps = saber_encaps [set] (public_key: u8, seed: u8) => (ciphertext: u8, shared_secret: u8);
     /// Decapsulation: the shared secret of 32 bytes. A ciphertext that was not made for this key is no refusal: it gives the rejected
     /// secret, SHA3-256 of z followed by SHA3-256 of the ciphertext.
     decaps = saber_decaps [set] (secret_key: u8, ciphertext: u8) => (shared_secret: u8);
-    /// Encrypts a message of 32 bytes with a secret seed of 32 bytes. Who guesses the seed reads the message, and a seed used twice with
-    /// one key shows in which bits two messages differ.
+    /// Encrypts a message of 32 bytes with a secret seed of 32 bytes. Whoever guesses the seed reads the message, and a seed used twice
+    /// with one key shows in which bits two messages differ.
     encrypt = saber_encrypt [set] (public_key: u8, message: u8, seed: u8) => (ciphertext: u8);
-    /// Decrypts to a message of 32 bytes with the plain secret, the first 416 x rank bytes of a secret key. By itself it withstands no
-    /// chosen ciphertexts: who has some of his own decrypted and sees the messages finds the plain secret. Programs that exchange secrets
-    /// use [`decaps`].
+    /// Decrypts to a message of 32 bytes with the plain secret, the first 416 x rank bytes of a secret key. By itself it is not safe
+    /// against chosen ciphertexts: whoever can have ciphertexts of their own decrypted and sees the messages finds the plain secret.
+    /// Programs that exchange secrets use [`decaps`].
     decrypt = saber_decrypt [set] (plain_secret: u8, ciphertext: u8) => (message: u8);
     /// The matrix of a seed of 32 bytes: 256 x rank x rank coefficients below 8192, row by row.
     gen_matrix = saber_gen_matrix [set] (seed: u8) => (matrix: u16);
     /// The secret of a seed of 32 bytes: 256 x rank signed coefficients, in -mu/2 .. mu/2: -5 .. 5 in set 1, -4 .. 4 in set 2, -3 .. 3 in
-    /// set 3. No residue is written: who packs or multiplies coefficients first adds the modulus to each negative one, 8192, or 1024 for a
+    /// set 3. No residue is written: before packing or multiplying, a caller adds the modulus to each negative one, 8192, or 1024 for a
     /// product modulo 1024.
     gen_secret = saber_gen_secret [set] (seed: u8) => (secret: i8);
     /// The product of two polynomials below the modulus, 1024 or 8192, where X to the 256 is -1.
@@ -181,9 +181,9 @@ extern "C" {
     fn saber_public_key_length(set: u32, secret_key_count: usize) -> usize;
 }
 
-/// The public key inside a secret key, no copy. It is empty where the set is unknown or the secret key has not its length.
+/// The public key inside a secret key, no copy. It is empty where the set is unknown or the secret key does not have its length.
 pub fn public_key_of(set: u32, secret_key: &[u8]) -> &[u8] {
-    // SAFETY: both functions only reckon with the two numbers.
+    // SAFETY: both functions only compute with the two numbers.
     let (offset, length) = unsafe { (saber_public_key_offset(set, secret_key.len()), saber_public_key_length(set, secret_key.len())) };
     &secret_key[offset..offset + length]
 }
