@@ -23,7 +23,7 @@ import saber
 JAR = pathlib.Path("/usr/share/java/bcprov.jar")
 CALLS = ("keygen", "encaps", "decaps")
 # As callgrind names them: Keccak-f, and the functions that the products stand in, of which the first calls itself.
-KECCAK, PRODUCTS = "keccak::permute", ("halves::split", "halves::split'2", "karatsuba::rows_add")
+KECCAK, PRODUCTS = "keccak::permute", ("karatsuba_split::split", "karatsuba_split::split'2", "karatsuba::rows_add")
 ROWS = [(number, call) for number in saber.SETS for call in CALLS]
 
 # Document 000, section 5: cycles of a 2.6 GHz processor.
