@@ -27,7 +27,7 @@ fn public_key_into(l: usize, matrix_seed: &[u8], secret: &[u16], public_key: &mu
     sha3::shake128_into(matrix_seed, &mut stored);
     let e = 320 * l;
     lwr::vector_into(true, l, &stored, secret, public_key);
-    lists::copy_at(&stored, public_key, e);
+    lists::copy_at(&stored, e, public_key);
 }
 
 // The secret key: the plain secret, of 13 bits a coefficient, the public key, its hash and z.
@@ -40,10 +40,10 @@ fn secret_key_into(l: usize, secret: &[u16], public_key: &[u8], z: &[u8], secret
     let h = e + public_key.len();
     let f = h + 32;
     packing::pack_vector_at(secret_key, 0, 13, l, secret);
-    lists::copy_at(public_key, secret_key, e);
+    lists::copy_at(public_key, e, secret_key);
     let hash = sha3::hash256(public_key);
-    lists::copy_at(&hash, secret_key, h);
-    lists::copy_at(z, secret_key, f);
+    lists::copy_at(&hash, h, secret_key);
+    lists::copy_at(z, f, secret_key);
 }
 
 // Makes keys at arguments of the set's lengths; the caller lends the place for the secret.

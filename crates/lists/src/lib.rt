@@ -9,7 +9,7 @@ ghost use Rattle.lists.specs.Numbers.{number, digits};
 ghost use Rattle.lists.specs.Strings.{same, placed};
 
 // Copies a string to a place of a larger one.
-pub fn copy_at(from: &[u8], to: &mut [u8], at: usize)
+pub fn copy_at(from: &[u8], at: usize, to: &mut [u8])
     requires { ⌜ at + length (now from) ≤ length (now to) ⌝ }
     ensures { λ _. ⌜ now (to .exit) ≡ placed at (now (from .entry)) (now (to .entry)) ⌝ }
 {
@@ -61,8 +61,8 @@ pub fn join(a: &[u8], b: &[u8], out: &mut [u8])
     requires { ⌜ length (now out) ≡ length (now a) + length (now b) ⌝ }
     ensures { λ _. ⌜ now (out .exit) ≡ now (a .entry) ++ now (b .entry) ⌝ }
 {
-    copy_at(a, out, 0);
-    copy_at(b, out, a.len());
+    copy_at(a, 0, out);
+    copy_at(b, a.len(), out);
 }
 
 // The number of four bytes, lowest first.
@@ -91,7 +91,7 @@ pub fn load64(bytes: &[u8], at: usize) -> u64
 }
 
 // Writes the four lowest bytes of a number to a place.
-pub fn store32(bytes: &mut [u8], at: usize, x: u64)
+pub fn store32(x: u64, at: usize, bytes: &mut [u8])
     requires { ⌜ at + 4 ≤ length (now bytes) ⌝ }
     ensures { λ _. ⌜ now (bytes .exit) ≡ placed at (digits 256 4 x) (now (bytes .entry)) ⌝ }
 {
@@ -102,7 +102,7 @@ pub fn store32(bytes: &mut [u8], at: usize, x: u64)
 }
 
 // Writes the lowest bytes of a number, as many as there are places, up to eight.
-pub fn store(bytes: &mut [u8], x: u64)
+pub fn store(x: u64, bytes: &mut [u8])
     requires { ⌜ length (now bytes) ≤ 8 ⌝ }
     ensures { λ _. ⌜ now (bytes .exit) ≡ digits 256 (length (now (bytes .entry))) x ⌝ }
 {
@@ -114,12 +114,12 @@ pub fn store(bytes: &mut [u8], x: u64)
 }
 
 // Writes the n lowest bytes of a number to a place, up to eight.
-pub fn store_at(bytes: &mut [u8], at: usize, n: usize, x: u64)
+pub fn store_at(x: u64, at: usize, n: usize, bytes: &mut [u8])
     requires { ⌜ (at + n ≤ length (now bytes)) × (n ≤ 8) ⌝ }
     ensures { λ _. ⌜ now (bytes .exit) ≡ placed at (digits 256 n x) (now (bytes .entry)) ⌝ }
 {
     let end = at + n;
-    store(&mut bytes[at..end], x);
+    store(x, &mut bytes[at..end]);
 }
 
 // The number of up to eight bytes.

@@ -47,7 +47,7 @@ fn pack_into(width: u32, coefficients: &[u16], bytes: &mut [u8])
         held += width;
         i += 1;
         if held >= 32 {
-            lists::store32(bytes, j, acc);
+            lists::store32(acc, j, bytes);
             acc >>= 32;
             held -= 32;
             j += 4;

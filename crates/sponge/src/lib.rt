@@ -47,7 +47,7 @@ fn block_of(s: &[u8]) -> [u8; 200]
     ensures { λ b. ⌜ b ≡ now (s .entry) ++ replicate (200 - length (now (s .entry))) 0 ⌝ }
 {
     let mut block = [0u8; 200];
-    lists::copy_at(s, &mut block, 0);
+    lists::copy_at(s, 0, &mut block);
     block
 }
 
@@ -91,10 +91,10 @@ fn state_into(a: [[u64; 5]; 5], output: &mut [u8])
 {
     let mut k = 0;
     while k < output.len() / 8 {
-        lists::store(&mut output[8 * k..8 * k + 8], a[k % 5][k / 5]);
+        lists::store(a[k % 5][k / 5], &mut output[8 * k..8 * k + 8]);
         k += 1;
     }
-    lists::store(&mut output[8 * k..], a[k % 5][k / 5]);
+    lists::store(a[k % 5][k / 5], &mut output[8 * k..]);
 }
 
 fn least(x: usize, y: usize) -> usize

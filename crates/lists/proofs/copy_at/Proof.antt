@@ -11,10 +11,10 @@ use Rattle.lists.proofs.copy_at.Statement.{statement}
 use Rattle.lists.proofs.copy_at.Tie as tie
 
 abbrev Inv-loop : tie.InvT-loop
-Inv-loop from to₀ at i₀ to i = (i ≤ length from) × (to ≡ paste to₀ at from i)
+Inv-loop from at to₀ i₀ to i = (i ≤ length from) × (to ≡ paste to₀ at from i)
 
 abbrev μ-loop : tie.MeasureT-loop
-μ-loop from to₀ at i₀ to i = length from - i
+μ-loop from at to₀ i₀ to i = length from - i
 
 -- the whole is as long as before
 long : (c : tie.At-loop Inv-loop μ-loop) → length (c .loop .to) ≡ length (c .before .args .to .now)

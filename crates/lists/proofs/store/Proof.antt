@@ -14,8 +14,8 @@ pub store-spec : {M : Type 1} → statement M
 store-spec =
     tie.close
     (tie.spec
-    (λ bytes₀ x i₀ bytes i. Filled (length bytes₀) bytes i (digit 256 x))
-    (λ bytes₀ x i₀ bytes i. length bytes₀ - i)
+    (λ x bytes₀ i₀ bytes i. Filled (length bytes₀) bytes i (digit 256 x))
+    (λ x bytes₀ i₀ bytes i. length bytes₀ - i)
     (λ c. fill-none refl)
     (λ c. search needs)
     (λ c. search needs)

@@ -72,12 +72,12 @@ loop-again c =
     let s = c .before .before .store32 in
     let f = four (c .before .before .before .before) in
     record {
-      size = s .kept .0 ∙ c .before .before .before .before .before .before .before .before .before .loop .inv .size;
+      size = s .kept .1 .1 .0 ∙ c .before .before .before .before .before .before .before .before .before .loop .inv .size;
       within = search needs;
       few = search needs;
       fours = search needs;
       cut =
-          write (more (c .before .before .before .before .before)) 4 32 refl (omega arith) f (s .kept .0)
+          write (more (c .before .before .before .before .before)) 4 32 refl (omega arith) f (s .kept .1 .1 .0)
           (rw (s .ensures) (stored _ _ _ f));
     }
 
