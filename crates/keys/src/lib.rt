@@ -39,7 +39,7 @@ fn secret_key_into(l: usize, secret: &[u16], public_key: &[u8], z: &[u8], secret
     let e = 416 * l;
     let h = e + public_key.len();
     let f = h + 32;
-    packing::pack_vector_at(secret_key, 0, 13, l, secret);
+    packing_vector::pack_vector_at(13, l, secret, 0, secret_key);
     lists::copy_at(public_key, e, secret_key);
     let hash = sha3::hash256(public_key);
     lists::copy_at(&hash, h, secret_key);

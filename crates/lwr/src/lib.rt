@@ -36,7 +36,7 @@ fn rows_with(
 {
     matrix::rows_into(transposed, l, matrix, secret, first, rows, cut, work, exact);
     rounding::round_into(exact, cut);
-    packing::pack_vector_at(out, 320 * first, 10, rows, cut);
+    packing_vector::pack_vector_at(10, rows, cut, 320 * first, out);
 }
 
 // All of b' or b, at the front of the output, up to three rows at a time: each turn starts from zeros. The caller lends the places for the packed

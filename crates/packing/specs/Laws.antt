@@ -2,4 +2,3 @@ pub mod Packing
 pub mod Cutting
 pub mod Lengths
 pub mod Polynomials
-pub mod Places

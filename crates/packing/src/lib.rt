@@ -1,12 +1,11 @@
-// Packing, to a place of a larger output, and unpacking, at any width of 1 to 16 bits, four bytes at a time.
+// Packing and unpacking, at any width of 1 to 16 bits, four bytes at a time.
 ghost use mathlib.Core.Path.{_≡_};
 ghost use Prim.Native.Nat.{_+_, _*_, _%_, _^_, _≤_};
 ghost use lib.ListN.{length};
-ghost use Rattle.lists.specs.Strings.{placed};
 ghost use Rattle.questions.specs.Answers.{earliest};
 ghost use Rattle.packing.specs.Packing.{packed, unpacked, isWidth, packQuestions, unpackQuestions};
 ghost use Rattle.packing.specs.Promises.{Packed, Unpacked};
-ghost use Rattle.packing.specs.Requires.{Fills, Appends, PlaceLengths, PlacesLengths};
+ghost use Rattle.packing.specs.Requires.{Fills, Appends};
 use questions::all_below;
 use questions::ask;
 
@@ -34,7 +33,7 @@ fn low_bits(acc: u64, width: u32) -> u16
 }
 
 // Packs coefficients, whatever their number. The bits that are read and not yet written are the `held` lowest of `acc`.
-fn pack_into(width: u32, coefficients: &[u16], bytes: &mut [u8])
+pub fn pack_into(width: u32, coefficients: &[u16], bytes: &mut [u8])
     requires { ⌜ Fills width (length (now coefficients)) (length (now bytes)) ⌝ }
     ensures { λ _. ⌜ now (bytes .exit) ≡ packed width (now (coefficients .entry)) ⌝ }
 {
@@ -52,30 +51,6 @@ fn pack_into(width: u32, coefficients: &[u16], bytes: &mut [u8])
             held -= 32;
             j += 4;
         }
-    }
-}
-
-// Packs a polynomial at a place of a larger output. No other byte of it changes.
-pub fn pack_at(out: &mut [u8], place: usize, width: u32, coefficients: &[u16])
-    requires { ⌜ PlaceLengths width (length (now coefficients)) place (length (now out)) ⌝ }
-    ensures { λ _. ⌜ now (out .exit) ≡ placed place (packed width (now (coefficients .entry))) (now (out .entry)) ⌝ }
-{
-    let end = place + 32 * (width as usize);
-    pack_into(width, coefficients, &mut out[place..end]);
-}
-
-// Packs l polynomials at a place of a larger output, one behind another.
-pub fn pack_vector_at(out: &mut [u8], place: usize, width: u32, l: usize, coefficients: &[u16])
-    requires { ⌜ PlacesLengths width l (now coefficients) place (length (now out)) ⌝ }
-    ensures { λ _. ⌜ now (out .exit) ≡ placed place (packed width (now (coefficients .entry))) (now (out .entry)) ⌝ }
-{
-    let size = 32 * (width as usize);
-    let mut i = 0;
-    while i < l {
-        let p = 256 * i;
-        let e = p + 256;
-        pack_at(out, place + size * i, width, &coefficients[p..e]);
-        i += 1;
     }
 }
 

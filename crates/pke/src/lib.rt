@@ -23,7 +23,7 @@ fn data_at(ciphertext: &mut [u8], place: usize, p: Params, v: &[u16; 256], messa
     packing::unpack_into(1, message, &mut numbers);
     reconciliation::mask_into(v, &numbers, &mut w);
     reconciliation::recon_into(p.g, &w, &mut numbers);
-    packing::pack_at(ciphertext, place, p.bits, &numbers);
+    packing_vector::pack_at(p.bits, &numbers, place, ciphertext);
 }
 
 // The message, from v and the reconciliation data.
@@ -36,7 +36,7 @@ fn message_into(p: Params, v: &[u16; 256], data: &[u8], message: &mut [u8])
     let mut bits = [0u16; 256];
     packing::unpack_into(p.bits, data, &mut numbers);
     reconciliation::recover_into(p.g, p.margin, v, &numbers, &mut bits);
-    packing::pack_at(message, 0, 1, &bits);
+    packing_vector::pack_at(1, &bits, 0, message);
 }
 
 // Encrypts at arguments of the set's lengths; the caller lends the place for the secret.

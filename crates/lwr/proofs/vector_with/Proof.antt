@@ -10,7 +10,7 @@ use lib.ListN.{length, length-take, length-drop}
 use Rattle.lists.specs.Strings.{placed}
 use Rattle.algebra.specs.Ring.{nat, blocks}
 use Rattle.packing.specs.Packing.{packed, unpacked}
-use Rattle.packing.specs.Laws.Places.{packed-none}
+use Rattle.packing_vector.specs.Laws.Places.{packed-none}
 use Rattle.rounding.specs.Rounding.{round}
 use Rattle.algebra.specs.Vectors.{matrixRow, side}
 use Rattle.matrix.specs.Laws.Zeros.{zeros-first}

@@ -13,8 +13,8 @@ use Rattle.questions.specs.Laws.Bounds.{all-below-at}
 use Rattle.algebra.specs.Ring.{nat, residues, blocks}
 use Rattle.algebra.specs.Laws.Vectors.{blocks-append, length-blocks}
 use Rattle.packing.specs.Packing.{packed}
-use Rattle.packing.specs.Requires.{PlacesLengths}
-use Rattle.packing.specs.Laws.Places.{packed-more}
+use Rattle.packing_vector.specs.Requires.{PlacesLengths}
+use Rattle.packing_vector.specs.Laws.Places.{packed-more}
 use Rattle.packing.specs.Laws.Polynomials.{length-packed}
 use Rattle.rounding.specs.Rounding.{round}
 use Rattle.rounding.specs.Laws.Rounding.{round-below}

@@ -11,10 +11,10 @@ use Rattle.lists.specs.Numbers.{digits, Below}
 use Rattle.lists.specs.Strings.{placed}
 use Rattle.lists.specs.Laws.Numbers.{below-take}
 use Rattle.lists.specs.Laws.Strings.{placed-there, placed-outside, placed-more}
 use Rattle.packing.specs.Packing.{recut, packed, unpacked}
-use Rattle.packing.specs.Requires.{PlaceLengths}
+use Rattle.packing_vector.specs.Requires.{PlaceLengths}
 use Rattle.packing.specs.Laws.Packing.{recut-append}
 use Rattle.packing.specs.Laws.Polynomials.{length-packed, whole-back}
 
 -- A6: "for a general width and any place with 32 × width bytes left". One polynomial x, at a place of `out`
 module _ (w place : ℕ) (x out : List ℕ) (least : 1 ≤ w) (polynomial : length x ≡ 256) (enough : place + 32 * w ≤ length out) where

@@ -1,13 +1,13 @@
--- `packing::pack_at` meets its contract: the part that is lent has 32 bytes for each bit of the width, and is put back at its place.
+-- `packing_vector::pack_at` meets its contract: the part that is lent has 32 bytes for each bit of the width, and is put back at its place.
 use borrow.Author.Needs.{needs}
 use Prim.Native.Nat.{_*_}
 use native.Mathlib.Omega.{arith}
 use lib.ListN.{length-take, length-drop}
 use Rattle.lists.specs.Laws.Parts.{put-placed}
 use Rattle.packing.specs.Laws.Packing.{polynomials-fill}
-use Rattle.packing.specs.Laws.Places.{size}
-use Rattle.packing.proofs.pack_at.Statement.{statement}
-use Rattle.packing.proofs.pack_at.Tie as tie
+use Rattle.packing_vector.specs.Laws.Places.{size}
+use Rattle.packing_vector.proofs.pack_at.Statement.{statement}
+use Rattle.packing_vector.proofs.pack_at.Tie as tie
 
 pack-into-requires : tie.Need-pack-into-requires
 pack-into-requires c κs =

@@ -1,4 +1,4 @@
--- `packing::pack_vector_at` meets its contract: after i turns the first i polynomials stand packed at the place, and all else is as it was.
+-- `packing_vector::pack_vector_at` meets its contract: after i turns the first i polynomials stand packed at the place, and all else is as it was.
 use borrow.Author.Needs.{needs}
 use Prim.Native.Nat.{_≤_, _+_, _*_, _-_}
 use mathlib.Core.Path.{_≡_, refl, _∙_}
@@ -7,17 +7,17 @@ use native.Mathlib.Omega.{arith}
 use lib.ListN.{length, take, length-take, length-drop}
 use lib.Seq.{take-all}
 use Rattle.lists.specs.Strings.{placed}
 use Rattle.packing.specs.Packing.{packed}
-use Rattle.packing.specs.Laws.Places.{packed-none, packed-next}
-use Rattle.packing.proofs.pack_vector_at.Statement.{statement}
-use Rattle.packing.proofs.pack_vector_at.Tie as tie
+use Rattle.packing_vector.specs.Laws.Places.{packed-none, packed-next}
+use Rattle.packing_vector.proofs.pack_vector_at.Statement.{statement}
+use Rattle.packing_vector.proofs.pack_vector_at.Tie as tie
 
 abbrev Inv-loop : tie.InvT-loop
-Inv-loop out₀ place width l coefficients size i₀ out i =
+Inv-loop width l coefficients place out₀ size i₀ out i =
     (i ≤ l) × (length out ≡ length out₀) × (out ≡ placed place (packed width (take (256 * i) coefficients)) out₀)
 
 abbrev μ-loop : tie.MeasureT-loop
-μ-loop out₀ place width l coefficients size i₀ out i = l - i
+μ-loop width l coefficients place out₀ size i₀ out i = l - i
 
 -- the next polynomial has its place
 next : (c : tie.In-loop Inv-loop μ-loop) →
@@ -69,12 +69,12 @@ pack-vector-at-spec =
     (λ c. (omega arith, refl, packed-none _ _ _))
     (λ c. search needs)
     (λ c. search needs)
-    (λ c. omega (arith, next (c .before)))
-    (λ c. omega (arith, next (c .before)))
     (λ c. search needs)
     (λ c. search needs)
     (λ c. search needs)
     (λ c. search needs)
+    (λ c. omega (arith, next (c .before .before)))
+    (λ c. omega (arith, next (c .before .before)))
     pack-at-requires
     (λ c. search needs)
     (λ c. search needs)
