@@ -32,7 +32,7 @@ module _ (p : Params) (matrixSeed secretSeed seed : List ℕ) where
   abbrev pub encryptionSecret : List ℤ
   encryptionSecret = secret (p .l) (p .mu) (coinsOf (messageOf seed) (sha3-256 (publicKey p matrixSeed secretSeed)))
 
-  -- N, reckoned from the seeds by the steps
+  -- N, computed from the seeds by the steps
   unfoldable pub seedsNoise : List ℤ
   seedsNoise = noise 256 (p .l) (entry (p .l) (matrix (p .l) (shake128 matrixSeed 32))) (poly keySecret) (poly encryptionSecret)
 
@@ -40,25 +40,25 @@ module _ (p : Params) (matrixSeed secretSeed seed : List ℕ) where
   abbrev pub NoiseWithin : Type 0
   NoiseWithin = Within (p .margin) seedsNoise
 
-  -- the ciphertext that the steps reckon from the seeds
+  -- the ciphertext that the steps compute from the seeds
   abbrev pub seedsCiphertext : List ℕ
   seedsCiphertext = encapsCiphertext p (publicKey p matrixSeed secretSeed) seed
 
-  -- with the secret key that they reckon, decryption gives back m, and decapsulation the shared secret of encapsulation
+  -- with the secret key that they compute, decryption gives back m, and decapsulation the shared secret of encapsulation
   pub record Returned (z : List ℕ) : Type 0 where
     pub message : decrypted p (plainPart p (secretKey p matrixSeed secretSeed z)) seedsCiphertext ≡ messageOf seed
     pub secret : decapsSecret p (secretKey p matrixSeed secretSeed z) seedsCiphertext ≡ encapsSecret p (publicKey p matrixSeed secretSeed) seed
 
 -- the set that keys are generated under
-abbrev pub rowOf : SetNumbers → Params
-rowOf sets = paramsOf (sets .keygen)
+abbrev pub keysSet : SetNumbers → Params
+keysSet sets = paramsOf (sets .keygen)
 
 -- the four set numbers mean one set, 0 counting as the set it means
 pub record OneSet (sets : SetNumbers) : Type 0 where
   pub known : Sets.known (sets .keygen) ≡ true
-  pub encaps : paramsOf (sets .encaps) ≡ rowOf sets
-  pub decrypt : paramsOf (sets .decrypt) ≡ rowOf sets
-  pub decaps : paramsOf (sets .decaps) ≡ rowOf sets
+  pub encaps : paramsOf (sets .encaps) ≡ keysSet sets
+  pub decrypt : paramsOf (sets .decrypt) ≡ keysSet sets
+  pub decaps : paramsOf (sets .decaps) ≡ keysSet sets
 
 -- one set, four seeds of 32 bytes, and outputs of their results' lengths
 pub record Ready (sets : SetNumbers) (matrixSeed secretSeed z seed pk sk ct ss message secret : ℕ) : Type 0 where
@@ -67,9 +67,9 @@ pub record Ready (sets : SetNumbers) (matrixSeed secretSeed z seed pk sk ct ss m
   pub secretSeedLong : secretSeed ≡ 32
   pub zLong : z ≡ 32
   pub seedLong : seed ≡ 32
-  pub pkLong : pk ≡ rowOf sets .pk
-  pub skLong : sk ≡ rowOf sets .sk
-  pub ctLong : ct ≡ rowOf sets .ct
+  pub pkLong : pk ≡ keysSet sets .pk
+  pub skLong : sk ≡ keysSet sets .sk
+  pub ctLong : ct ≡ keysSet sets .ct
   pub ssLong : ss ≡ 32
   pub messageLong : message ≡ 32
   pub secretLong : secret ≡ 32

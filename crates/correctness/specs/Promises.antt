@@ -6,7 +6,7 @@ use lib.Dec.{eqb}
 use lib.ListN.{length}
 use Rattle.questions.specs.Answers.{Question, earliest}
 use Rattle.correctness.specs.declared.SetNumbers.{SetNumbers}
-use Rattle.correctness.specs.Claim.{NoiseWithin, Ready, Calls, Accepted, Agreed, rowOf}
+use Rattle.correctness.specs.Claim.{NoiseWithin, Ready, Calls, Accepted, Agreed, keysSet}
 
 -- the answers of four calls as questions: whether each is 0
 abbrev pub refusals : ℕ → ℕ → ℕ → ℕ → List Question
@@ -30,4 +30,4 @@ pub record RoundTrip
         (length secret) → Accepted r1 r2 r3 r4 × (r ≡ 0)
     pub agrees :
         Ready sets (length matrixSeed) (length secretSeed) (length z) (length seed) (length pk) (length sk) (length ct) (length ss) (length message)
-        (length secret) → NoiseWithin (rowOf sets) matrixSeed secretSeed seed → Agreed seed ss' message' secret'
+        (length secret) → NoiseWithin (keysSet sets) matrixSeed secretSeed seed → Agreed seed ss' message' secret'

@@ -1,4 +1,4 @@
--- Demand 3 over the steps alone: what the steps reckon from four seeds is decrypted and decapsulated to what was encapsulated, within the bounds.
+-- Demand 3 over the steps alone: what the steps compute from four seeds is decrypted and decapsulated to what was encapsulated, within the bounds.
 use Prim.Native.Nat.{ℕ}
 use mathlib.Core.Bool.{true}
 use mathlib.Core.List.{List}

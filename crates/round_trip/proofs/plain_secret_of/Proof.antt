@@ -1,4 +1,4 @@
--- `correctness::plain_secret_of` meets its contract: a part from 0 to n is the first n bytes, and a shorter key is its own first n bytes.
+-- `round_trip::plain_secret_of` meets its contract: a part from 0 to n is the first n bytes, and a shorter key is its own first n bytes.
 use borrow.Author.Needs.{needs}
 use Prim.Native.Nat.{_*_}
 use mathlib.Core.Path.{sym, ap, _∙_}
@@ -8,8 +8,8 @@ use lib.Seq.{take-all}
 use Rattle.lists.specs.Laws.Parts.{first-part}
 use Rattle.sets.specs.declared.Params.{Params}
 use Rattle.sets.specs.Laws.Sets.{few-polynomials}
-use Rattle.correctness.proofs.plain_secret_of.Statement.{statement}
-use Rattle.correctness.proofs.plain_secret_of.Tie as tie
+use Rattle.round_trip.proofs.plain_secret_of.Statement.{statement}
+use Rattle.round_trip.proofs.plain_secret_of.Tie as tie
 
 pub plain-secret-of-spec : {M : Type 1} → statement M
 plain-secret-of-spec =

@@ -1,8 +1,8 @@
--- `correctness::round_trip` meets its contract: the four calls keep their promises, and `trip` says what these give together.
+-- `round_trip::round_trip` meets its contract: the four calls keep their promises, and `trip` says what these give together.
 use borrow.Author.Needs.{needs}
 use Rattle.correctness.specs.Laws.Theorem.{same-string, trip}
-use Rattle.correctness.proofs.round_trip.Statement.{statement}
-use Rattle.correctness.proofs.round_trip.Tie as tie
+use Rattle.round_trip.proofs.round_trip.Statement.{statement}
+use Rattle.round_trip.proofs.round_trip.Tie as tie
 
 returns : tie.Need-returns
 returns c =

@@ -1,10 +1,10 @@
--- `correctness::refusal` meets its contract: it asks of each answer whether it is 0.
+-- `round_trip::refusal` meets its contract: it asks of each answer whether it is 0.
 use borrow.Author.Needs.{needs}
 use Rattle.questions.specs.Laws.Answers.{asked}
 use Rattle.questions.specs.Laws.Answers.Asked.{asks, none}
 use Rattle.correctness.specs.Promises.{refusals}
-use Rattle.correctness.proofs.refusal.Statement.{statement}
-use Rattle.correctness.proofs.refusal.Tie as tie
+use Rattle.round_trip.proofs.refusal.Statement.{statement}
+use Rattle.round_trip.proofs.refusal.Tie as tie
 
 returns : tie.Need-returns
 returns c =
