@@ -12,7 +12,7 @@ use sets::Params;
 use sets::set_params;
 
 // The reconciliation data of a message, from v', at a place of the ciphertext. One array holds the message's bits and then the data.
-fn data_at(ciphertext: &mut [u8], place: usize, p: Params, v: &[u16; 256], message: &[u8])
+fn data_at(p: Params, v: &[u16; 256], message: &[u8], place: usize, ciphertext: &mut [u8])
     requires { ⌜ DataLengths p (length (now message)) place (length (now ciphertext)) ⌝ }
     ensures { λ _. ⌜ now (ciphertext .exit) ≡ placed place
         (packed (p .bits) (reconData (p .g) (maskedPoly (now (v .entry)) (unpacked 1 (now (message .entry))))))
@@ -61,7 +61,7 @@ pub fn encrypt_with(
         secret,
         ciphertext,
     );
-    data_at(ciphertext, e, p, &v, message);
+    data_at(p, &v, message, e, ciphertext);
 }
 
 // Decrypts at arguments of the set's lengths; the caller lends the place for the secret.
