@@ -53,7 +53,7 @@ fn word(z: i8) -> u16
     ((z as i32 + 65536) as u32 % 65536) as u16
 }
 
-// Signed numbers modulo 65536, as their sums are reckoned.
+// Signed numbers modulo 65536, as they are added.
 pub fn words_into(signed: &[i8], output: &mut [u16])
     requires { ⌜ length (now output) ≡ length (now signed) ⌝ }
     ensures { λ _. ⌜ now (output .exit) ≡ residues 65536 (now (signed .entry)) ⌝ }

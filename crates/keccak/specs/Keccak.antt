@@ -19,7 +19,7 @@ five f = f 0 ∷ f 1 ∷ f 2 ∷ f 3 ∷ f 4 ∷ []
 abbrev pub state : (ℕ → ℕ → ℕ) → State
 state f = five (λ x. five (f x))
 
--- a lane turned by n places, towards its high bits
+-- a lane rotated by n bits, towards its high bits
 unfoldable pub rot : ℕ → ℕ → ℕ
 rot v n = bitOr (v * 2 ^ n % 2 ^ 64) (v / 2 ^ (64 - n))
 

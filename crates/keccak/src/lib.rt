@@ -32,7 +32,7 @@ const RC: [u64; 24] = [
     0x8000000080008008,
 ];
 
-// v turned by n places; two shifts, since one by 64 is none.
+// v rotated by n bits; two shifts, since one by 64 is none.
 fn rotl(v: u64, n: u64) -> u64
     requires { ⌜ n < 64 ⌝ }
     ensures { λ r. ⌜ r ≡ rot v n ⌝ }

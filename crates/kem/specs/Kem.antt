@@ -1,4 +1,4 @@
--- Document 01, "Steps", and document 02, A2: encapsulation ("sealing") and decapsulation ("unsealing"), of the set whose row in the table is p.
+-- Document 01, "Steps", and document 02, A2: encapsulation ("sealing") and decapsulation ("unsealing"), of the set with parameters p.
 -- The capsule is the ciphertext.
 use Prim.Native.Nat.{ℕ}
 use mathlib.Core.Bool.{Bool, cond}

@@ -9,7 +9,7 @@ pub record EncapsScratch (p : Params) (pk secret ct ss : ℕ) : Type 0 where
   pub fits : EncapsLengths p pk ct ss
   pub secretLong : secret ≡ 256 * p .l
 
--- the secret key of its set's length, a ciphertext, and the places for a secret and for the ciphertext made again
+-- the secret key of its set's length, a ciphertext, and scratch for a secret and for the ciphertext made again
 pub record AgainScratch (p : Params) (sk ct secret again : ℕ) : Type 0 where
   pub isSet : IsSet p
   pub skLong : sk ≡ 416 * p .l + (p .pk + 64)

@@ -8,7 +8,7 @@ ghost use Rattle.kem.specs.Ensures.{Encapsulation, MadeAgain};
 use sets::Params;
 use sets::set_params;
 
-// Encapsulates at arguments of the set's lengths; the caller lends the place for the secret.
+// Encapsulates at arguments of the set's lengths; the caller lends scratch for the secret.
 fn encaps_with(
     p: Params,
     public_key: &[u8],
@@ -49,7 +49,7 @@ fn again_with(
     kr
 }
 
-// Decapsulates at arguments of the set's lengths; the caller lends the places for the secret and for the ciphertext made again.
+// Decapsulates at arguments of the set's lengths; the caller lends scratch for the secret and for the ciphertext made again.
 fn decaps_with(
     p: Params,
     secret_key: &[u8],

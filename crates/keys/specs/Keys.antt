@@ -1,4 +1,4 @@
--- Document 01, "Bytes" and "Steps": the public key, the secret key and its parts, of the set whose row in the table is p; and the lookup of the
+-- Document 01, "Bytes" and "Steps": the public key, the secret key and its parts, of the set with parameters p; and the lookup of the
 -- public key inside a secret key.
 use Prim.Native.Nat.{ℕ, _+_, _*_}
 use mathlib.Core.Bool.{true}

@@ -46,7 +46,7 @@ fn secret_key_into(l: usize, secret: &[u16], public_key: &[u8], z: &[u8], secret
     lists::copy_at(z, f, secret_key);
 }
 
-// Makes keys at arguments of the set's lengths; the caller lends the place for the secret.
+// Makes keys at arguments of the set's lengths; the caller lends scratch for the secret.
 pub fn keygen_with(
     p: Params,
     matrix_seed: &[u8],

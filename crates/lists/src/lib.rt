@@ -35,7 +35,7 @@ pub fn difference(a: &[u8], b: &[u8]) -> u8
     bits
 }
 
-// a where the difference is 0, else b: a mask of ones or of zeros turns the bits of a in which they differ, or none. Of a `bool` in place of the
+// a where the difference is 0, else b: a mask of ones or of zeros turns the bits of a in which they differ, or none. From a `bool` instead of the
 // difference the compiler makes a choice of two addresses.
 fn either(difference: u8, a: u8, b: u8) -> u8
     ensures { λ r. ⌜ r ≡ cond (eqb difference 0) a b ⌝ }
@@ -101,7 +101,7 @@ pub fn store32(x: u64, at: usize, bytes: &mut [u8])
     bytes[at + 3] = (x / 256 / 256 / 256 % 256) as u8;
 }
 
-// Writes the lowest bytes of a number, as many as there are places, up to eight.
+// Fills up to eight bytes with the lowest bytes of a number.
 pub fn store(x: u64, bytes: &mut [u8])
     requires { ⌜ length (now bytes) ≤ 8 ⌝ }
     ensures { λ _. ⌜ now (bytes .exit) ≡ digits 256 (length (now (bytes .entry))) x ⌝ }

@@ -1,4 +1,4 @@
--- Document 01, "Steps": encryption and decryption, of the set whose row in the table is p.
+-- Document 01, "Steps": encryption and decryption, of the set with parameters p.
 use Prim.Native.Nat.{ℕ, _*_}
 use mathlib.Core.Bool.{false}
 use mathlib.Core.List.{List, _++_}

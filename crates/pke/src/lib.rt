@@ -39,7 +39,7 @@ fn message_into(p: Params, v: &[u16; 256], data: &[u8], message: &mut [u8])
     packing_vector::pack_at(1, &bits, 0, message);
 }
 
-// Encrypts at arguments of the set's lengths; the caller lends the place for the secret.
+// Encrypts at arguments of the set's lengths; the caller lends scratch for the secret.
 pub fn encrypt_with(
     p: Params,
     public_key: &[u8],
@@ -64,7 +64,7 @@ pub fn encrypt_with(
     data_at(p, &v, message, e, ciphertext);
 }
 
-// Decrypts at arguments of the set's lengths; the caller lends the place for the secret.
+// Decrypts at arguments of the set's lengths; the caller lends scratch for the secret.
 pub fn decrypt_with(
     p: Params,
     plain_secret: &[u8],

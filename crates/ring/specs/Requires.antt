@@ -1,8 +1,8 @@
--- What the inner functions ask of their callers.
+-- What the inner functions require of their arguments.
 use Prim.Native.Nat.{ℕ}
 use mathlib.Core.Path.{_≡_}
 
--- what `mul_into` asks of the lengths of its factors and of its output
+-- what `mul_into` requires of the lengths of its factors and of its output
 pub record Factors (a b product : ℕ) : Type 0 where
   pub first : a ≡ 256
   pub second : b ≡ 256

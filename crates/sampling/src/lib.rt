@@ -20,7 +20,7 @@ pub fn packed_matrix_into(l: usize, seed: &[u8], bytes: &mut [u8])
     sha3::shake128_into(seed, bytes);
 }
 
-// The same as one flat list; the caller lends the place for the packed one.
+// The same as one flat list; the caller lends scratch for the packed one.
 fn matrix_with(l: usize, seed: &[u8], bytes: &mut [u8], output: &mut [u16])
     requires { ⌜ MatrixScratch l (length (now bytes)) (length (now output)) ⌝ }
     ensures { λ _. ⌜ now (output .exit) ≡ matrix l (now (seed .entry)) ⌝ }
@@ -29,7 +29,7 @@ fn matrix_with(l: usize, seed: &[u8], bytes: &mut [u8], output: &mut [u16])
     packing::unpack_into(13, bytes, output);
 }
 
-// The same, with a place of its own.
+// The same, with scratch of its own.
 fn matrix_into(l: usize, seed: &[u8], output: &mut [u16])
     requires { ⌜ MatrixLengths l (length (now output)) ⌝ }
     ensures { λ _. ⌜ now (output .exit) ≡ matrix l (now (seed .entry)) ⌝ }
@@ -39,7 +39,7 @@ fn matrix_into(l: usize, seed: &[u8], output: &mut [u16])
     matrix_with(l, seed, &mut bytes[0..n], output);
 }
 
-// The coefficients that bytes give, by counting: a number of mu bits has the two pieces of one. The caller lends the places for the numbers.
+// The coefficients that bytes give, by counting: a number of mu bits has the two pieces of one. The caller lends scratch for the numbers.
 fn count_with(mu: u32, bytes: &[u8], numbers: &mut [u16], output: &mut [i8])
     requires { ⌜ CountScratch mu (length (now bytes)) (length (now numbers)) (length (now output)) ⌝ }
     ensures { λ _. ⌜ now (output .exit) ≡ secretOf mu (now (bytes .entry)) ⌝ }
@@ -81,7 +81,7 @@ pub fn secret_into(l: usize, mu: usize, seed: &[u8], output: &mut [i8])
     secret_with(mu as u32, seed, &mut buffer[0..n], output);
 }
 
-// The same secret modulo 8192, as it is packed and multiplied; the caller lends the places for the signed numbers.
+// The same secret modulo 8192, as it is packed and multiplied; the caller lends scratch for the signed numbers.
 fn secret_residues_with(l: usize, mu: usize, seed: &[u8], signed: &mut [i8], output: &mut [u16])
     requires { ⌜ SecretLengths l mu (length (now signed)) × (length (now output) ≡ length (now signed)) ⌝ }
     ensures { λ _. ⌜ now (output .exit) ≡ residues 8192 (secret l mu (now (seed .entry))) ⌝ }
@@ -90,7 +90,7 @@ fn secret_residues_with(l: usize, mu: usize, seed: &[u8], signed: &mut [i8], out
     binomial::residues_into(signed, output);
 }
 
-// The same, with places of its own.
+// The same, with scratch of its own.
 pub fn secret_residues_into(l: usize, mu: usize, seed: &[u8], output: &mut [u16])
     requires { ⌜ SecretLengths l mu (length (now output)) ⌝ }
     ensures { λ _. ⌜ now (output .exit) ≡ residues 8192 (secret l mu (now (seed .entry))) ⌝ }

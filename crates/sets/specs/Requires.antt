@@ -5,7 +5,7 @@ use lib.Count.{trailingZeros}
 use Rattle.sets.specs.declared.Params.{Params}
 use Rattle.sets.specs.Sets.{paramsOf, added}
 
--- how the numbers of a row hang together
+-- how the parameters of a set depend on each other
 pub record Sums (p : Params) : Type 0 where
   pub stepSome : 0 < p .g
   pub stepEven : p .g % 2 ≡ 0
@@ -15,7 +15,7 @@ pub record Sums (p : Params) : Type 0 where
   pub addedIs : added p + p .g / 2 ≡ 256
   pub skIs : p .sk ≡ 416 * p .l + (p .pk + 64)
 
--- the row: some polynomials and no more than four; a secret from pieces of whole bits; the step of reconciliation, a power of two; sizes
+-- one of the three sets: some polynomials and no more than four; a secret from pieces of whole bits; the step of reconciliation, a power of two; sizes
 pub record IsSet (p : Params) : Type 0 where
   pub some : 0 < p .l
   pub few : p .l ≤ 4
@@ -31,7 +31,7 @@ pub record IsSet (p : Params) : Type 0 where
   pub ctIs : p .ct ≡ 320 * p .l + 32 * p .bits
   pub sums : Sums p
 
--- a row's number: one byte, not 0, and it means that row
+-- a set's own number: one byte, not 0, and it means that set
 pub record Numbered (p : Params) : Type 0 where
   pub some : 0 < p .number
   pub byte : p .number < 256

@@ -4,7 +4,7 @@ use mathlib.Core.Bool.{Bool, cond, _||_}
 use lib.Dec.{eqb, ltb}
 use Rattle.sets.specs.declared.Params.{Params}
 
--- the rows of the table, each with its set's number; `bits` is the width of a number of reconciliation data, from "Bytes"
+-- the parameters of each set, with its number; `bits` is the width of a number of reconciliation data, from "Bytes"
 abbrev pub lightSaber : Params
 lightSaber = record { number = 1; l = 2; mu = 10; t = 4; g = 128; bits = 3; pk = 672; sk = 1568; ct = 736; margin = 192 }
 

@@ -72,7 +72,7 @@ module _ (p : Params) (isSet : IsSet p) (fit : Fits (p .g) (p .margin) (added p)
         inner-secret,
       )
 
-  -- the message's bits, upon v′
+  -- the message's bits, added to v′
   abbrev A : List ℕ
   A = matrix (p .l) stored
 

@@ -1,4 +1,4 @@
--- `kem::decaps` meets its contract: an answer of 0 gives `decaps_with` what it asks, and any other leaves the output alone.
+-- `kem::decaps` meets its contract: an answer of 0 gives `decaps_with` what it requires, and any other leaves the output alone.
 use native.Mathlib.Omega.{arith}
 use borrow.Author.Needs.{needs}
 use Rattle.questions.specs.Laws.Answers.{wrote-none}

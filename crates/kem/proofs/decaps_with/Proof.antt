@@ -8,7 +8,7 @@ use Rattle.kem.specs.Laws.Kem.{decaps-steps}
 use Rattle.kem.proofs.decaps_with.Statement.{statement}
 use Rattle.kem.proofs.decaps_with.Tie as tie
 
--- the places before the chosen secret is copied: where it was chosen, the steps made again before that, and the start
+-- points before the chosen secret is copied: where it was chosen, where the ciphertext was made again, and the start
 abbrev chosen : tie.After-copy-at-arg → tie.After-chosen-secret
 chosen c = c .before .before
 

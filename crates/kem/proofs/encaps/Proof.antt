@@ -1,4 +1,4 @@
--- `kem::encaps` meets its contract: an answer of 0 gives `encaps_with` what it asks, and any other leaves the two outputs alone.
+-- `kem::encaps` meets its contract: an answer of 0 gives `encaps_with` what it requires, and any other leaves the two outputs alone.
 use native.Mathlib.Omega.{arith}
 use borrow.Author.Needs.{needs}
 use Rattle.questions.specs.Laws.Answers.{refused}

@@ -59,7 +59,7 @@ module _ (set : ℕ) {r : ℕ} {p : Params} (is : p ≡ paramsOf set) (z : r ≡
   encaps-done pk seed ct ss a e =
       record { answers = sym z ∙ a; ciphertext = rw is at (e .ciphertext); sharedSecret = rw is at (e .sharedSecret) }
 
-  -- the work of decapsulation has the lengths that it asks
+  -- the lengths that `decaps_with` requires
   pub decaps-scratch :
       (sk ct ss : ℕ) {secret again : ℕ} → r ≡ earliest (decapsQuestions set sk ct ss) → secret ≡ 256 * p .l → again ≡ p .ct →
       DecapsScratch p sk ct secret again ss

@@ -1,4 +1,4 @@
--- `keys::keygen` meets its contract: an answer of 0 gives `keygen_with` what it asks, and any other leaves the two keys alone.
+-- `keys::keygen` meets its contract: an answer of 0 gives `keygen_with` what it requires, and any other leaves the two keys alone.
 use native.Mathlib.Omega.{arith}
 use borrow.Author.Needs.{needs}
 use Rattle.questions.specs.Laws.Answers.{refused}

@@ -1,4 +1,4 @@
--- `lists::store_at` meets its contract: the part that is lent has n places, and is put back at its place.
+-- `lists::store_at` meets its contract: the part that is lent has n bytes, and is put back at its place.
 use borrow.Author.Needs.{needs}
 use Prim.Native.Nat.{ℕ, _+_, _-_}
 use mathlib.Core.Path.{_≡_, ap, _∙_}

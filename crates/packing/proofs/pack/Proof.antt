@@ -1,4 +1,4 @@
--- `packing::pack` meets its contract: an answer of 0 is what `pack_into` asks, and any other leaves the output.
+-- `packing::pack` meets its contract: an answer of 0 is what `pack_into` requires, and any other leaves the output.
 use borrow.Author.Needs.{needs}
 use Rattle.questions.specs.Laws.Answers.{wrote, wrote-none}
 use Rattle.packing.specs.Laws.Lengths.{pack-lengths}

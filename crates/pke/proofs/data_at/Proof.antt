@@ -21,7 +21,7 @@ data-at-spec =
     (λ c κs. record {
       zeros = search needs;
       power = search needs;
-      places =
+      outLong =
           c .before .before .before .before .before .before .unpack-into .kept .1 .1 .0 ∙ slice-aggregate-recon-into (c .before);
     })
     (λ c. search needs)

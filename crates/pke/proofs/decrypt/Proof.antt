@@ -1,4 +1,4 @@
--- `pke::decrypt` meets its contract: an answer of 0 gives `decrypt_with` what it asks, and any other leaves the output alone.
+-- `pke::decrypt` meets its contract: an answer of 0 gives `decrypt_with` what it requires, and any other leaves the output alone.
 use native.Mathlib.Omega.{arith}
 use borrow.Author.Needs.{needs}
 use Rattle.questions.specs.Laws.Answers.{wrote-none}

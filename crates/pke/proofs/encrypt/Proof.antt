@@ -1,4 +1,4 @@
--- `pke::encrypt` meets its contract: an answer of 0 gives `encrypt_with` what it asks, and any other leaves the output alone.
+-- `pke::encrypt` meets its contract: an answer of 0 gives `encrypt_with` what it requires, and any other leaves the output alone.
 use native.Mathlib.Omega.{arith}
 use borrow.Author.Needs.{needs}
 use Rattle.questions.specs.Laws.Answers.{wrote-none}

@@ -1,4 +1,4 @@
--- An answer of 0 gives the inner forms what they ask, and with the work done it is what the call promises.
+-- An answer of 0 gives the inner functions what they require, and with the work done it is what the call promises.
 use Prim.Native.Nat.{ℕ}
 use mathlib.Core.List.{List}
 use mathlib.Core.Path.{_≡_, refl}
@@ -22,7 +22,7 @@ module _
   recon-lengths =
       let y = all-yes (reconDataQuestions set w (length out)) refl a z in
       let k = is-set set (y .0) in
-      rw is (record { zeros = search needs; power = search needs; places = omega (arith, eqb-true) })
+      rw is (record { zeros = search needs; power = search needs; outLong = omega (arith, eqb-true) })
 
   pub recon-done : {out' : List ℕ} → out' ≡ reconData (p .g) w → ReconData set w out 0 out'
   recon-done e = wrote a z (rw is at e)
@@ -33,7 +33,7 @@ module _
   pub recover-lengths : RecoverLengths (length v) (length d) (length out)
   recover-lengths =
       let y = all-yes (recoverQuestions set v d (length out)) refl a z in
-      record { numbers = omega (arith, eqb-true); places = omega (arith, eqb-true) }
+      record { numbers = omega (arith, eqb-true); outLong = omega (arith, eqb-true) }
 
   pub recover-done : {out' : List ℕ} → out' ≡ recovered (p .g) (added p) v d → Recovered set v d out 0 out'
   recover-done e = wrote a z (rw is at e)

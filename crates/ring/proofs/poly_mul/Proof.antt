@@ -1,4 +1,4 @@
--- `ring::poly_mul` meets its contract: an answer of 0 gives the inner functions what they ask, and any other leaves the output alone.
+-- `ring::poly_mul` meets its contract: an answer of 0 gives the inner functions what they require, and any other leaves the output alone.
 use borrow.Author.Needs.{needs}
 use Rattle.questions.specs.Laws.Answers.{wrote-none}
 use Rattle.ring.specs.Laws.Products.{mul-factors, mul-fits, mul-modulus, mul-done}

@@ -31,7 +31,7 @@ reduced m z h p q =
     ∙ ⊎-elim (λ e. rw e (residues-part 1024 (omega arith) 64 (omega arith) z)) (λ e. rw e (residues-part 8192 (omega arith) 8 (omega arith) z))
     (moduli m h)
 
--- an answer of 0 gives the inner functions what they ask, and with the work done it is what the call promises
+-- an answer of 0 gives the inner functions what they require, and with the work done it is what the call promises
 module _ (m : ℕ) (a b out : List ℕ) {r : ℕ} (e : r ≡ earliest (mulQuestions m a b (length out))) (z : r ≡ 0) where
   pub mul-modulus : isModulus m ≡ true
   mul-modulus = all-yes (mulQuestions m a b (length out)) refl e z .0

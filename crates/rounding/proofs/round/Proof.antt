@@ -1,4 +1,4 @@
--- `rounding::round` meets its contract: an answer of 0 gives `round_into` what it asks, and any other leaves the output alone.
+-- `rounding::round` meets its contract: an answer of 0 gives `round_into` what it requires, and any other leaves the output alone.
 use borrow.Author.Needs.{needs}
 use Rattle.questions.specs.Laws.Answers.{wrote, wrote-none}
 use Rattle.rounding.specs.Laws.Rounding.{round-lengths}

@@ -1,4 +1,4 @@
--- `sampling::gen_matrix` meets its contract: an answer of 0 gives the inner form what it asks.
+-- `sampling::gen_matrix` meets its contract: an answer of 0 gives the inner function what it requires.
 use borrow.Author.Needs.{needs}
 use Rattle.questions.specs.Laws.Answers.{wrote-none}
 use Rattle.sampling.specs.Laws.Lengths.{matrix-lengths, matrix-done}

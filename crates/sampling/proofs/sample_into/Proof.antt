@@ -2,7 +2,7 @@
 use mathlib.Core.Path.{sym, _∙_}
 use borrow.Author.Needs.{needs}
 use Rattle.sampling.specs.Laws.Halves.{secret-bytes}
-use Rattle.sampling.specs.Laws.Lengths.{byte-places}
+use Rattle.sampling.specs.Laws.Lengths.{byte-each}
 use Rattle.sampling.proofs.sample_into.Statement.{statement}
 use Rattle.sampling.proofs.sample_into.Tie as tie
 
@@ -10,7 +10,7 @@ pub sample-into-spec : {M : Type 1} → statement M
 sample-into-spec =
     tie.close
     (tie.spec
-    (λ c κs. search byte-places)
+    (λ c κs. search byte-each)
     (λ c. search needs)
     (λ c.
     let test = c .before .before .before in

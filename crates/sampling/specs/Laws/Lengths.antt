@@ -1,4 +1,4 @@
--- An answer of 0 gives the inner forms what they ask, and with the work done it is what the call promises.
+-- An answer of 0 gives the inner functions what they require, and with the work done it is what the call promises.
 use Prim.Native.Nat.{ℕ, _*_}
 use mathlib.Core.List.{List}
 use mathlib.Core.Path.{_≡_, refl}
@@ -17,25 +17,25 @@ use Rattle.sampling.specs.Sampling.{matrix, secret, genMatrixQuestions, 
 use Rattle.sampling.specs.Promises.{GenMatrix, GenSecret}
 use Rattle.sampling.specs.Requires.{MatrixLengths, SampleLengths, CountScratch, SecretLengths}
 
--- the places of a secret are numbers of mu bits that fill its bytes
+-- the coefficients of a secret are numbers of mu bits that fill its bytes
 pub sample-lengths : (l mu out n : ℕ) → SecretLengths l mu out → n ≡ 32 * l * mu → SampleLengths mu n out
 sample-lengths l mu out n r e = record {
   cut = record {
     least = r .pieces .least;
     most = r .pieces .most;
-    fills = rw (r .places, e) (omega arith);
+    fills = rw (r .outLong, e) (omega arith);
     fours = rw e (omega arith);
   };
   even = r .pieces .even;
-  few = omega (arith, r .places, r .few);
+  few = omega (arith, r .outLong, r .few);
 }
 
--- the numbers of `count_with` fill its bytes, and bytes that `sample_into` weighs by the table have a place each
+-- the numbers of `count_with` fill its bytes, and where `sample_into` weighs by the table there is a byte for each output
 pub count-cut : {mu bytes numbers out : ℕ} → CountScratch mu bytes numbers out → Fills mu numbers bytes
 count-cut s = rw (s .numbersLong) (s .fits .cut)
 
-pub byte-places : {mu bytes out : ℕ} → SampleLengths mu bytes out → mu ≡ 8 → out ≡ bytes
-byte-places r e = let filled = rw e at (r .cut .fills) in omega arith
+pub byte-each : {mu bytes out : ℕ} → SampleLengths mu bytes out → mu ≡ 8 → out ≡ bytes
+byte-each r e = let filled = rw e at (r .cut .fills) in omega arith
 
 module _ (set : ℕ) (seed : List ℕ) {r : ℕ} {p : Params} (is : p ≡ paramsOf set) (z : r ≡ 0) where
   module _ (out : List ℕ) (a : r ≡ earliest (genMatrixQuestions set (length seed) (length out))) where

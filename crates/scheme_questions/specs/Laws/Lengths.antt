@@ -1,4 +1,4 @@
--- An answer of 0 gives the work its lengths: r is the answer, and p the row of the set.
+-- An answer of 0 gives the work its lengths: r is the answer, and p the set's parameters.
 use Prim.Native.Nat.{ℕ}
 use mathlib.Core.Path.{_≡_, refl}
 use borrow.Author.Needs.{needs}

@@ -1,4 +1,4 @@
--- Laws of the parameter sets: every number that Q1 takes has a row of the table.
+-- Laws of the parameter sets: every number that Q1 takes means one of the three sets.
 use Prim.Native.Nat.{ℕ, zero, suc, _*_, _/_, _≤_, _<_}
 use mathlib.Core.Bool.{Bool, true, false, cond, _||_, false≢true}
 use mathlib.Core.Path.{_≡_, refl}
@@ -16,7 +16,7 @@ unfolding paramsOf
 unknown-from n h =
     rw (ne-eqb n 0 (λ e. omega arith), ne-eqb n 1 (λ e. omega arith), ne-eqb n 2 (λ e. omega arith), ne-eqb n 3 (λ e. omega arith))
 
--- what holds of the three rows and of no set holds of every number
+-- what holds of the three sets and of no set holds of every number
 every-number : (P : Params → Type 0) → P lightSaber → P saber → P fireSaber → P noSet → (set : ℕ) → P (paramsOf set)
 unfolding paramsOf
 every-number P light mid fire none set = go (eqb set 1) (eqb set 0 || eqb set 2) (eqb set 3)
@@ -27,7 +27,7 @@ every-number P light mid fire none set = go (eqb set 1) (eqb set 0 || eqb set 2)
     go false false true = fire
     go false false false = none
 
--- what holds of the three rows holds of every number that Q1 takes
+-- what holds of the three sets holds of every number that Q1 takes
 each-set : (P : Params → Type 0) → P lightSaber → P saber → P fireSaber → (set : ℕ) → known set ≡ true → P (paramsOf set)
 each-set P light mid fire =
     every-number (λ p. ltb 0 (p .l) ≡ true → P p) (λ _. light) (λ _. mid) (λ _. fire) (λ e. absurd (false≢true e))
@@ -36,7 +36,7 @@ pub is-set : (set : ℕ) → known set ≡ true → IsSet (paramsOf set)
 unfolding trailingZeros
 is-set = each-set IsSet (search needs) (search needs) (search needs)
 
--- the number of every row, and it is the one that was asked for, unless that is 0, which stands for the default
+-- every set has its own number: the one that was asked for, unless that is 0, which means the default
 pub numbered : (set : ℕ) → known set ≡ true → Numbered (paramsOf set)
 unfolding paramsOf
 numbered = each-set Numbered (search needs) (search needs) (search needs)
