@@ -13,5 +13,6 @@ residues-into-spec =
     (λ c κs. search needs)
     (λ c. search needs)
     (λ c.
-    let words = c .before .before .before .before .before .before in
-    reduced 8192 (words .before .before .before .args .signed .now) refl (words .words-into .ensures) (c .before .before .reduce .ensures)))
+    let reduces = c .before .before in
+    let words = reduces .before .before .before .before in
+    reduced 8192 (words .before .before .before .args .signed .now) refl (words .words-into .ensures) (reduces .reduce .ensures)))

@@ -28,8 +28,9 @@ words-into-spec =
     (λ c. search needs)
     (λ c. search needs)
     (λ c.
-    let loop = c .before .before .before .loop in
-    let z = getD (c .before .before .before .before .before .args .signed .now) (loop .i) (pos 0) in
+    let turn = c .before .before .before in
+    let loop = turn .loop in
+    let z = getD (turn .before .before .args .signed .now) (loop .i) (pos 0) in
     let same : toZ w8 (ofZ w8 z) ≡ z = toZ-ofZ (sfits-of (c .before .word-arg .given)) in
     fill-more (omega arith) (loop .inv) (c .word .ensures ∙ ap (λ z. modℤ z 65536) same))
     (λ c. search needs)

@@ -6,10 +6,18 @@ use Rattle.kem.specs.Laws.Kem.{again-steps}
 use Rattle.kem.proofs.again_with.Statement.{statement}
 use Rattle.kem.proofs.again_with.Tie as tie
 
+abbrev kr-of : tie.After-encrypt-with-arg3 → tie.After-key-and-coins
+kr-of c = c .before .before .before .before .before .before
+
+abbrev message-of : tie.After-key-and-coins → tie.After-decrypt-with
+message-of c = c .before .before .before .before .before .before
+
+abbrev start-of : tie.After-decrypt-with → tie.Start
+start-of c = c .before .before .before .before .before .before .before .before .before .before
+
 encrypt-with-requires : tie.Need-encrypt-with-requires
 encrypt-with-requires c κs =
-    let message = c .before .before .before .before .before .before .before .before .before .before .before .before in
-    let start = message .before .before .before .before .before .before .before .before .before .before in
+    let start = start-of (message-of (kr-of c)) in
     record {
       fits = record { isSet = start .pre .isSet; pkLong = search needs; messageLong = search needs; ctLong = start .pre .againLong };
       secretLong = search needs;
@@ -43,7 +51,7 @@ again-with-spec =
     (λ c. search needs)
     (λ c.
     let again = c .before .before .before .before in
-    let kr = again .before .before .before .before .before .before .before in
-    let message = kr .before .before .before .before .before .before in
+    let kr = kr-of (again .before) in
+    let message = message-of kr in
     again-steps _ _ _ (search first-part) (search mid-part) (search mid-part) (message .decrypt-with .ensures) (kr .key-and-coins .ensures)
     (coins-part _ (kr .key-and-coins .ensures)) (again .encrypt-with .ensures)))

@@ -4,12 +4,18 @@ use Rattle.keys.specs.Laws.Keys.{public-steps}
 use Rattle.keys.proofs.public_key_into.Statement.{statement}
 use Rattle.keys.proofs.public_key_into.Tie as tie
 
+abbrev vector-of : tie.After-copy-at → tie.After-vector-into
+vector-of c = c .before .before .before .before .before
+
+abbrev start-of : tie.After-shake128-into → tie.Start
+start-of c = c .before .before .before .before .before
+
 returns : tie.Need-returns
 returns c =
     let last = c .before .before in
-    let vector = last .before .before .before .before .before in
+    let vector = vector-of last in
     let stored = vector .before .before .before .before in
-    let start = stored .before .before .before .before .before in
+    let start = start-of stored in
     public-steps (start .args .l) _ _ _ (start .pre .pkLong) (stored .shake128-into .ensures) (vector .vector-into .ensures) (last .copy-at .ensures)
 
 pub public-key-into-spec : {M : Type 1} → statement M

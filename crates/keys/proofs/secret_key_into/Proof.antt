@@ -4,6 +4,9 @@ use Rattle.keys.specs.Laws.Keys.{secret-steps}
 use Rattle.keys.proofs.secret_key_into.Statement.{statement}
 use Rattle.keys.proofs.secret_key_into.Tie as tie
 
+abbrev start-of : tie.After-pack-vector-at → tie.Start
+start-of c = c .before .before .before .before .before .before
+
 returns : tie.Need-returns
 returns c =
     let last = c .before .before in
@@ -11,7 +14,7 @@ returns c =
     let hash = hashed .before .before .before in
     let public = hash .before .before .before in
     let plain = public .before .before .before .before in
-    let start = plain .before .before .before .before .before .before in
+    let start = start-of plain in
     secret-steps (start .args .l) _ _ _ _ (start .pre .skLong) (start .pre .secretLong) (start .pre .zLong) (plain .pack-vector-at .ensures)
     (hash .hash256 .ensures) (public .copy-at .ensures) (hashed .copy-at2 .ensures) (last .copy-at3 .ensures)
 

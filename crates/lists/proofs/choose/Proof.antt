@@ -25,5 +25,6 @@ choose-spec =
     (λ c. fill-more (search needs) (c .before .before .before .before .loop .inv) (c .either .ensures))
     (λ c. search needs)
     (λ c.
-    let start = c .before .before .before .before .before in
-    fill-chosen (eqb (start .args .difference) 0) _ _ (start .pre .0) (start .pre .1) (search needs) (c .before .loop .inv)))
+    let done = c .before in
+    let start = done .before .before .before .before in
+    fill-chosen (eqb (start .args .difference) 0) _ _ (start .pre .0) (start .pre .1) (search needs) (done .loop .inv)))

@@ -11,6 +11,9 @@ use Rattle.lists.specs.Laws.Numbers.{number-next}
 use Rattle.lists.proofs.load32.Statement.{statement}
 use Rattle.lists.proofs.load32.Tie as tie
 
+abbrev start-of : tie.After-joined → tie.Start
+start-of c = c .before .before .before .before .before .before
+
 word-is :
     (bs : List ℕ) (i : ℕ) → i + 4 ≤ length bs →
     number 256 (take 4 (drop i bs)) ≡ getD bs i 0 + 256 * (getD bs (i + 1) 0 + 256 * (getD bs (i + 2) 0 + 256 * getD bs (i + 3) 0))
@@ -39,4 +42,4 @@ load32-spec =
     (λ c. search needs)
     (λ c. search needs)
     (λ c κs. search needs)
-    (λ c. (c .joined .ensures .0 ∙ sym (word-is _ _ (c .before .before .before .before .before .before .pre)), c .joined .ensures .1)))
+    (λ c. (c .joined .ensures .0 ∙ sym (word-is _ _ (start-of c .pre)), c .joined .ensures .1)))

@@ -13,9 +13,10 @@ use Rattle.lists.proofs.store_at.Tie as tie
 
 returns : tie.Need-returns
 returns c =
-    let a = c .before .before .before .before .before .args in
+    let stored = c .before .before in
+    let a = stored .before .before .before .args in
     let n : length (midOf (a .at) (a .at + a .n - a .at) (a .bytes .now)) ≡ a .n = mid-len (a .at) (a .at + a .n) (a .bytes .now) (omega arith) ∙ omega arith in
-    let y = c .before .before .store .ensures ∙ ap (λ (k : ℕ). digits 256 k (a .x)) n in
+    let y = stored .store .ensures ∙ ap (λ (k : ℕ). digits 256 k (a .x)) n in
     rw y (put-placed (a .at) (a .n) (a .bytes .now) (digits 256 (a .n) (a .x)) (length-digits 256 (a .n) (a .x)))
 
 pub store-at-spec : {M : Type 1} → statement M

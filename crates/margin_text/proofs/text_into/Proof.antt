@@ -11,4 +11,6 @@ text-into-spec =
     (λ c κs. search needs)
     (λ c. search needs)
     (λ c. search needs)
-    (λ c. appended-copy _ _ _ (c .before .before .before .before .before .before .pre) (c .before .before .copy-at .ensures)))
+    (λ c.
+    let copied = c .before .before in
+    appended-copy _ _ _ (copied .before .before .before .before .pre) (copied .copy-at .ensures)))

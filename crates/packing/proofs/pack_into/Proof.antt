@@ -40,13 +40,17 @@ one : (a : ℕ) (xs : List ℕ) (i : ℕ) → i < length xs → getD xs i 0 ≡ 
 unfolding number
 one a xs i h = rw (drop-cons xs i 0 h) (omega (arith, mul-zero (2 ^ a)))
 
+-- the start of the turn in which a coefficient is read
+abbrev turn-of : tie.After-append-bits Inv-loop μ-loop → tie.At-loop Inv-loop μ-loop
+turn-of c = c .before .before .before .before
+
 -- a coefficient is read
 more : (c : tie.After-append-bits Inv-loop μ-loop) →
-    let t = c .before .before .before .before in
+    let t = turn-of c in
     let s = t .before .before .before .args in
     Cutting (s .width) 8 (s .coefficients .now) (t .loop .bytes) (c .append-bits .result) (t .loop .held + s .width) (t .loop .i + 1) (t .loop .j)
 more c =
-    let t = c .before .before .before .before in
+    let t = turn-of c in
     let s = t .before .before .before .args in
     let i = t .loop .i in
     let l = c .before .before .shared-slice-known2 .given i .fits in
@@ -57,7 +61,7 @@ more c =
 
 -- with 32 bits held there are four bytes to write
 four : (c : tie.Then1 Inv-loop μ-loop) →
-    let t = c .before .before .before .before .before .loop in
+    let t = turn-of (c .before) .loop in
     t .j + 4 ≤ length (t .bytes)
 four c = to-write (more (c .before)) 4 (omega arith) (omega arith) (c .if1 .taken)
 
@@ -70,20 +74,21 @@ stored x j out h =
 loop-again : tie.Need-loop-again Inv-loop μ-loop
 loop-again c =
     let s = c .before .before .store32 in
-    let f = four (c .before .before .before .before) in
+    let full = c .before .before .before .before in
+    let f = four full in
     record {
-      size = s .kept .1 .1 .0 ∙ c .before .before .before .before .before .before .before .before .before .loop .inv .size;
+      size = s .kept .1 .1 .0 ∙ turn-of (full .before) .loop .inv .size;
       within = search needs;
       few = search needs;
       fours = search needs;
       cut =
-          write (more (c .before .before .before .before .before)) 4 32 refl (omega arith) f (s .kept .1 .1 .0)
+          write (more (full .before)) 4 32 refl (omega arith) f (s .kept .1 .1 .0)
           (rw (s .ensures) (stored _ _ _ f));
     }
 
 loop-again-2 : tie.Need-loop-again-2 Inv-loop μ-loop
 loop-again-2 c = record {
-  size = c .before .before .before .before .before .loop .inv .size;
+  size = turn-of (c .before) .loop .inv .size;
   within = search needs;
   few = search needs;
   fours = search needs;

@@ -25,10 +25,13 @@ abbrev μ-loop : tie.MeasureT-loop
 μ-loop width bytes coefficients₀ acc₀ held₀ i₀ j₀ coefficients acc held i j = length coefficients₀ - j
 
 -- with too few bits held there are four bytes to read
-four : (c : tie.Then1 Inv-loop μ-loop) → c .before .before .loop .i + 4 ≤ length (c .before .before .before .before .before .args .bytes .now)
+four : (c : tie.Then1 Inv-loop μ-loop) →
+    let t = c .before .before in
+    t .loop .i + 4 ≤ length (t .before .before .before .args .bytes .now)
 four c =
-    let h = to-read (c .before .before .loop .inv .cut) (c .before .loop-test .taken) (c .if1 .taken) in
-    omega (arith, c .before .before .before .before .before .pre .fours)
+    let t = c .before .before in
+    let h = to-read (t .loop .inv .cut) (c .before .loop-test .taken) (c .if1 .taken) in
+    omega (arith, t .before .before .before .pre .fours)
 
 -- either way there are enough bits
 ready : (c : tie.Joined1 Inv-loop μ-loop) →
@@ -49,8 +52,9 @@ ready c =
 loop-again : tie.Need-loop-again Inv-loop μ-loop
 unfolding digits
 loop-again c =
-    let r = ready (c .before .before .before) in
-    let t = c .before .before .before .before .before .loop in
+    let joined = c .before .before .before in
+    let r = ready joined in
+    let t = joined .before .before .loop in
     record {
       size = simp length-set (r .0 .size);
       fours = r .0 .fours;

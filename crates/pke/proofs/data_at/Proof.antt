@@ -18,11 +18,12 @@ data-at-spec =
     (λ c κs. search needs)
     slice-aggregate-recon-into
     (λ c. search needs)
-    (λ c κs. record {
+    (λ c κs.
+    let masks = c .before .before in
+    record {
       zeros = search needs;
       power = search needs;
-      outLong =
-          c .before .before .before .before .before .before .unpack-into .kept .1 .1 .0 ∙ slice-aggregate-recon-into (c .before);
+      outLong = masks .before .before .before .before .unpack-into .kept .1 .1 .0 ∙ slice-aggregate-recon-into (c .before);
     })
     (λ c. search needs)
     (λ c κs. search needs)

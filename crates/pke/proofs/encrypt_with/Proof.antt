@@ -6,12 +6,21 @@ use Rattle.pke.specs.Laws.Pke.{encrypt-steps}
 use Rattle.pke.proofs.encrypt_with.Statement.{statement}
 use Rattle.pke.proofs.encrypt_with.Tie as tie
 
+abbrev both-of : tie.After-data-at → tie.After-both-into
+both-of c = c .before .before .before .before .before
+
+abbrev secret-of : tie.After-both-into → tie.After-secret-residues-into
+secret-of c = c .before .before .before .before .before .before .before
+
+abbrev start-of : tie.After-secret-residues-into → tie.Start
+start-of c = c .before .before .before .before .before .before .before .before
+
 returns : tie.Need-returns
 returns c =
     let after-data = c .before .before in
-    let after-both = after-data .before .before .before .before .before in
-    let after-secret = after-both .before .before .before .before .before .before .before in
-    let start = after-secret .before .before .before .before .before .before .before .before in
+    let after-both = both-of after-data in
+    let after-secret = secret-of after-both in
+    let start = start-of after-secret in
     let a = start .args in
     let lengths = start .pre .fits in
     let both = after-both .both-into .ensures in

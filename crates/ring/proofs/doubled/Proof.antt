@@ -53,4 +53,6 @@ doubled-spec =
     (λ c. search needs)
     (λ c. search needs)
     (λ c. (omega arith, fill-more (omega arith) (c .before .before .before .loop2 .inv .1) (search place-high)))
-    (λ c. fill-all (omega arith) (c .before .loop2 .inv .1) ∙ places (c .before .before .before .before .before .args .b .now)))
+    (λ c.
+    let done = c .before in
+    fill-all (omega arith) (done .loop2 .inv .1) ∙ places (done .before .before .before .before .args .b .now)))

@@ -11,8 +11,11 @@ use Rattle.ring.specs.Products.{mulQuestions}
 use Rattle.ring.proofs.mul_answer.Statement.{statement}
 use Rattle.ring.proofs.mul_answer.Tie as tie
 
+abbrev start-of : tie.After-ask3 → tie.Start
+start-of c = c .before .before .before .before .before
+
 abbrev questions : tie.After-ask3 → List Question
-questions c = let a = c .before .before .before .before .before .args in mulQuestions (a .modulus) (a .a .now) (a .b .now) (a .output)
+questions c = let a = start-of c .args in mulQuestions (a .modulus) (a .a .now) (a .b .now) (a .output)
 
 first : (c : tie.After-ask3) → c .ask3 .result ≡ earliest (take 3 (questions c))
 first c =

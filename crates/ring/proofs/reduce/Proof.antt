@@ -31,8 +31,9 @@ reduce-spec =
     (λ c. search needs)
     (λ c. search needs)
     (λ c.
-    let loop = c .before .before .before .loop in
-    let m = c .before .before .before .before .before .args .m in (
+    let turn = c .before .before .before in
+    let loop = turn .loop in
+    let m = turn .before .before .args .m in (
       fill-more (omega arith) (loop .inv .0) (c .residue .ensures ∙ ap (λ (x : ℕ). x % m) (loop .inv .1 (loop .k) (omega arith))),
       λ i h. getD-set-other (loop .out) (loop .k) i _ 0 (λ e. omega arith) ∙ loop .inv .1 i (omega arith),
     ))

@@ -10,6 +10,9 @@ use Rattle.sampling.specs.Laws.Lengths.{count-cut}
 use Rattle.sampling.proofs.count_with.Statement.{statement}
 use Rattle.sampling.proofs.count_with.Tie as tie
 
+abbrev cut-of : tie.After-weigh-numbers → tie.After-unpack-into
+cut-of c = c .before .before .before .before .before
+
 pub count-with-spec : {M : Type 1} → statement M
 count-with-spec =
     tie.close
@@ -19,9 +22,10 @@ count-with-spec =
     (λ c. search needs)
     (λ c. search needs)
     (λ c.
-    let cut = c .before .before .before .before .before .before in
+    let weighs = c .before in
+    let cut = cut-of weighs in
     let start = cut .before .before .before .before in
     let lengths = start .pre .fits in
     let mu = start .args .mu in
-    c .before .weigh-numbers .ensures ∙ ap (map (weighed (mu / 2))) (cut .unpack-into .ensures)
+    weighs .weigh-numbers .ensures ∙ ap (map (weighed (mu / 2))) (cut .unpack-into .ensures)
     ∙ sym (secret-weighed mu (length (start .args .output .now)) (start .args .bytes .now) (lengths .cut .least) (lengths .even) (sym (lengths .cut .fills)))))

@@ -24,23 +24,25 @@ loop-holds c = (omega arith, zero-mod _, rw zero-div)
 loop-again : tie.Need-loop-again Inv-loop μ-loop
 unfolding mix
 loop-again c =
-    let l = c .before .before .before .before .before .before in
+    let block = c .before .before .before in
+    let l = block .before .before .before in
     let x = l .before .before .args in (
       omega arith,
       add-mod-right (l .loop .at) (x .rate) ∙ l .loop .inv .1,
       c .permute .ensures ∙ ap keccakF (c .before .mix .ensures)
           ∙ absorb-whole (x .rate) (l .loop .at) (omega arith) (l .loop .inv .1) (x .domain) (x .message .now) _ _ (l .loop .inv .2) (omega arith)
-          (c .before .before .before .block-of .ensures),
+          (block .block-of .ensures),
     )
 
 returns : tie.Need-returns Inv-loop μ-loop
 unfolding mix
 returns c =
-    let l = c .before .before .before .before .before in
+    let last = c .before .before in
+    let l = last .before .before .before in
     let x = l .before .before .args in
     ap keccakF (c .mix2 .ensures)
     ∙ absorb-end (x .rate) (l .loop .at) (omega arith) (l .loop .inv .1) (x .domain) (x .message .now) _ _ (l .loop .inv .2) (omega arith)
-    (omega arith) (c .before .before .last-block .ensures)
+    (omega arith) (last .last-block .ensures)
 
 pub absorb-spec : {M : Type 1} → statement M
 absorb-spec =

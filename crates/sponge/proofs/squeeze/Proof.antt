@@ -29,14 +29,16 @@ loop-holds c = (fill-none refl, λ h. (zero-mod _, rw zero-div))
 loop-again : tie.Need-loop-again Inv-loop μ-loop
 unfolding later
 loop-again c =
-    let p = c .before .before .before .before .before in
+    let written = c .before .before in
+    let taken = written .before .before in
+    let p = taken .before in
     let l = p .before .before .loop in
     let r = p .before .before .before .before .args .rate in
-    let n = c .before .before .before .before .least in
+    let n = taken .least in
     let now = l .inv .1 (omega (arith, l .inv .0 .size)) in
     let state = p .permute .ensures ∙ now .1 in
     let pos : 0 < r = omega arith in (
-      fill-part (omega arith) (omega (arith, l .inv .0 .size, n .ensures)) (l .inv .0) (c .before .before .state-into .ensures)
+      fill-part (omega arith) (omega (arith, l .inv .0 .size, n .ensures)) (l .inv .0) (written .state-into .ensures)
           (λ i h. ap (λ (a : State). byteAt a i) state ∙ squeeze-at r (l .at) pos (now .0) _ i (omega (arith, n .ensures))),
       λ h.
           let e : l .at + n .result ≡ l .at + r = omega (arith, n .ensures, l .inv .0 .size) in

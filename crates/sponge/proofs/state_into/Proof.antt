@@ -31,12 +31,13 @@ state-into-spec =
     (λ c. search needs)
     (λ c. search needs)
     (λ c.
-    let b = c .before .before .before .before .before .before in
+    let stored = c .before .before in
+    let b = stored .before .before .before .before in
     let l = b .loop in
     let e : 8 * (l .k + 1) ≡ 8 * l .k + 8 = omega arith in
     rw e
     (lane-more (b .before .before .args .t1) (l .k) (omega arith) (omega arith) (omega (arith, l .inv .size)) (l .inv)
-    (c .before .before .store .ensures)))
+    (stored .store .ensures)))
     (λ c. search needs)
     (λ c. search needs)
     (λ c. search needs)
@@ -47,13 +48,15 @@ state-into-spec =
     (λ c. search needs)
     (λ c κs. simp (length-take, length-drop) (omega arith))
     (λ c.
-    let b = c .before .before .before .before .before .before in
+    let stored = c .before .before in
+    let b = stored .before .before .before .before in
     let l = b .loop in
     lane-more (b .before .before .args .t1) (l .k) (omega arith) (omega (arith, l .inv .size)) (omega (arith, l .inv .size)) (l .inv)
-    (c .before .before .store2 .ensures) .size)
+    (stored .store2 .ensures) .size)
     (λ c.
-    let b = c .before .before .before .before .before .before in
+    let stored = c .before .before in
+    let b = stored .before .before .before .before in
     let l = b .loop in
     fill-all (omega (arith, l .inv .size))
     (lane-more (b .before .before .args .t1) (l .k) (omega arith) (omega (arith, l .inv .size)) (omega (arith, l .inv .size)) (l .inv)
-    (c .before .before .store2 .ensures))))
+    (stored .store2 .ensures))))
