@@ -8,5 +8,5 @@ pub mod Reduced
 pub mod Table
 pub mod Vectors
 pub mod Matrices
-pub mod Lines
+pub mod Convolution
 pub mod Halves

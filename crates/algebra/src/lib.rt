@@ -1,1 +1,1 @@
-// Whole numbers, residues and the ring of polynomials: definitions and laws, in specs/.
+// Whole numbers, residues, the ring of polynomials, vectors and matrices: definitions and laws, in specs/.

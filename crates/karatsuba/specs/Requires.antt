@@ -2,26 +2,26 @@
 use Prim.Native.Nat.{ℕ, _+_, _*_, _<_, _≤_}
 use mathlib.Core.Path.{_≡_}
 
--- what `lay` asks: the rows a, the factor b, and places for all of them
+-- what `lay` requires: the rows a, the factor b, and places for all of them
 pub record LayScratch (rows a b work : ℕ) : Type 0 where
   pub factors : a ≡ 256 * rows
   pub factor : b ≡ 256
   pub left : 384 * (rows + 1) ≤ work
 
--- what `lay_line` asks: the same, and line g to end at `end`
-pub record LineScratch (rows a b g end work : ℕ) : Type 0 where
+-- what `lay_chunk` requires: the same, and the chunks g to end at `end`
+pub record ChunkScratch (rows a b g end work : ℕ) : Type 0 where
   pub factors : a ≡ 256 * rows
   pub factor : b ≡ 256
-  pub lines : g < 16
+  pub chunks : g < 16
   pub left : end ≤ work
 
--- what `folded` asks: sixteen places of each
+-- what `folded` requires: sixteen places of each
 pub record FoldedScratch (x y work o old : ℕ) : Type 0 where
   pub first : x + 16 ≤ work
   pub second : y + 16 ≤ work
   pub third : o + 16 ≤ old
 
--- what `rows_add` asks: at most four rows a; one factor; places to work in; a polynomial of out for each row
+-- what `rows_add` requires: at most four rows a; one factor; scratch; a polynomial of out for each row
 pub record RowsScratch (rows a b work out : ℕ) : Type 0 where
   pub most : rows ≤ 4
   pub factors : a ≡ 256 * rows

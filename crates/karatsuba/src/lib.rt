@@ -5,15 +5,15 @@ ghost use lib.ListN.{length};
 ghost use Rattle.lists.specs.Lists.{from};
 ghost use Rattle.algebra.specs.Ring.{poly, blocks};
 ghost use Rattle.ring.specs.Promises.{Multiplied};
-ghost use Rattle.karatsuba.specs.Ensures.{foldAt, foldRow, Line, LaidLine, Laid, source, rowsAdded};
-ghost use Rattle.karatsuba.specs.Requires.{LayScratch, LineScratch, FoldedScratch, RowsScratch};
+ghost use Rattle.karatsuba.specs.Ensures.{foldAt, foldRow, Chunk, LaidChunk, Laid, source, rowsAdded};
+ghost use Rattle.karatsuba.specs.Requires.{LayScratch, ChunkScratch, FoldedScratch, RowsScratch};
 use karatsuba_base::put;
 use std::num;
 
-// Sixteen coefficients from place s on, behind 8 zeros.
-fn line(f: &[u16], s: usize) -> [u16; 24]
+// A chunk: sixteen coefficients from place s on, behind 8 zeros.
+fn chunk(f: &[u16], s: usize) -> [u16; 24]
     requires { ⌜ s + 16 ≤ length (now f) ⌝ }
-    ensures { λ r. ⌜ Line (now (f .entry)) s 16 r ⌝ }
+    ensures { λ r. ⌜ Chunk (now (f .entry)) s 16 r ⌝ }
 {
     let mut r = [0u16; 24];
     let mut k = 0;
@@ -24,18 +24,18 @@ fn line(f: &[u16], s: usize) -> [u16; 24]
     r
 }
 
-// Line g of each row and of b, at the place `at`.
-fn lay_line(rows: usize, a: &[u16], b: &[u16], g: usize, work: &mut [u16], at: usize)
-    requires { ⌜ LineScratch rows (length (now a)) (length (now b)) g (at + 24 * (rows + 1)) (length (now work)) ⌝ }
-    ensures { λ _. ⌜ LaidLine (source rows (now (a .entry)) (now (b .entry))) g (rows + 1) at (now (work .entry)) (now (work .exit)) ⌝ }
+// Chunk g of each row and of b, at the place `at`.
+fn lay_chunk(rows: usize, a: &[u16], b: &[u16], g: usize, work: &mut [u16], at: usize)
+    requires { ⌜ ChunkScratch rows (length (now a)) (length (now b)) g (at + 24 * (rows + 1)) (length (now work)) ⌝ }
+    ensures { λ _. ⌜ LaidChunk (source rows (now (a .entry)) (now (b .entry))) g (rows + 1) at (now (work .entry)) (now (work .exit)) ⌝ }
 {
     let mut i = 0;
     while i < rows {
-        let r = line(a, 256 * i + 16 * g);
+        let r = chunk(a, 256 * i + 16 * g);
         put(&r, work, at + 24 * i);
         i += 1;
     }
-    let r = line(b, 16 * g);
+    let r = chunk(b, 16 * g);
     put(&r, work, at + 24 * rows);
 }
 
@@ -46,7 +46,7 @@ fn lay(rows: usize, a: &[u16], b: &[u16], work: &mut [u16])
 {
     let mut g = 0;
     while g < 16 {
-        lay_line(rows, a, b, g, work, 24 * ((rows + 1) * g));
+        lay_chunk(rows, a, b, g, work, 24 * ((rows + 1) * g));
         g += 1;
     }
 }
@@ -65,7 +65,7 @@ fn folded(work: &[u16], x: usize, y: usize, old: &[u16], o: usize) -> [u16; 16]
     r
 }
 
-// The product whose first line stands at x and whose next line is s places on, folded by X^256 = -1 and added to out.
+// The product whose first chunk stands at x and whose next chunk is s places on, folded by X^256 = -1 and added to out.
 fn fold_row(work: &[u16], x: usize, s: usize, out: &mut [u16])
     requires { ⌜ (x + 31 * s + 16 ≤ length (now work)) × (length (now out) ≡ 256) ⌝ }
     ensures { λ _. ⌜ now (out .exit) ≡ from 256 (foldRow (now (work .entry)) x s (now (out .entry))) ⌝ }
@@ -94,7 +94,7 @@ fn fold(rows: usize, work: &[u16], x: usize, out: &mut [u16])
     }
 }
 
-// To each polynomial of out the product of b and the same one of a, modulo 65536; the caller lends the places to work in.
+// To each polynomial of out the product of b and the same one of a, modulo 65536. The caller lends the scratch `work`.
 pub fn rows_add(rows: usize, a: &[u16], b: &[u16], work: &mut [u16], out: &mut [u16])
     requires { ⌜ RowsScratch rows (length (now a)) (length (now b)) (length (now work)) (length (now out)) ⌝ }
     ensures { λ _. ⌜ now (out .exit) ≡ rowsAdded rows (now (a .entry)) (now (b .entry)) (now (out .entry)) ⌝ }

@@ -6,7 +6,7 @@ use lib.IntN.{_+ℤ_}
 use lib.ListN.{getD, length}
 use Rattle.algebra.specs.Integers.{Same}
 use Rattle.algebra.specs.Halves.{conv, window}
-use Rattle.karatsuba_base.specs.Layout.{reads, place, operand}
+use Rattle.karatsuba_base.specs.Layout.{reads, offset, operand}
 
 -- the n places from `at` on hold f 0, .., f (n - 1), and every other what it held
 pub record Put (at n : ℕ) (f : ℕ → ℕ) (w w′ : List ℕ) : Type 0 where
@@ -15,23 +15,23 @@ pub record Put (at n : ℕ) (f : ℕ → ℕ) (w w′ : List ℕ) : Type 0 where
   pub below : (p : ℕ) → p < at → getD w′ p 0 ≡ getD w p 0
   pub above : (p : ℕ) → at + n ≤ p → getD w′ p 0 ≡ getD w p 0
 
--- eight coefficients p times a row, in the first n of 24 places; the others hold 0
-pub record Lower (p row : List ℕ) (n : ℕ) (r : List ℕ) : Type 0 where
+-- eight coefficients p times the padded sixteen, in the first n of 24 places; the others hold 0
+pub record Lower (p padded : List ℕ) (n : ℕ) (r : List ℕ) : Type 0 where
   pub size : length r ≡ 32
-  pub value : (t : ℕ) → t < n → Same 65536 (reads r t) (window (reads p) (reads row) t)
+  pub value : (t : ℕ) → t < n → Same 65536 (reads r t) (window (reads p) (reads padded) t)
   pub zero : (t : ℕ) → n ≤ t → getD r t 0 ≡ 0
 
--- the next eight times the row added to it, in the first n of 24 places from the eighth on
-pub record Upper (p row low : List ℕ) (n : ℕ) (r : List ℕ) : Type 0 where
+-- the next eight times the padded sixteen added to it, in the first n of 24 places from the eighth on
+pub record Upper (p padded low : List ℕ) (n : ℕ) (r : List ℕ) : Type 0 where
   pub size : length r ≡ 32
   pub first : (t : ℕ) → t < 8 → getD r t 0 ≡ getD low t 0
-  pub value : (t : ℕ) → t < n → Same 65536 (reads r (t + 8)) (reads low (t + 8) +ℤ window (reads p) (reads row) t)
+  pub value : (t : ℕ) → t < n → Same 65536 (reads r (t + 8)) (reads low (t + 8) +ℤ window (reads p) (reads padded) t)
 
 -- the plain products of 16 coefficients of the first n rows, at out; beyond the products of all rows nothing changes
 pub record Plain (rows n a out : ℕ) (w w′ : List ℕ) : Type 0 where
   pub size : length w′ ≡ length w
   pub value :
       (i k : ℕ) → i < n → k < 32 →
-      Same 65536 (reads w′ (out + 16 * i + place (16 * rows) k)) (conv (operand rows 1 w a rows) (operand rows 1 w a i) k)
+      Same 65536 (reads w′ (out + 16 * i + offset (16 * rows) k)) (conv (operand rows 1 w a rows) (operand rows 1 w a i) k)
   pub below : (p : ℕ) → p < out → getD w′ p 0 ≡ getD w p 0
   pub above : (p : ℕ) → out + 32 * rows ≤ p → getD w′ p 0 ≡ getD w p 0

@@ -13,13 +13,13 @@ use Rattle.algebra.specs.Halves.{low}
 abbrev pub reads : List ℕ → ℕ → ℤ
 reads w p = pos (getD w p 0)
 
--- how far coefficient k stands from the first one, where the next line is s places on
-unfoldable pub place : ℕ → ℕ → ℕ
-place s k = s * (k / 16) + k % 16
+-- how far coefficient k stands from the first one, where the next chunk is s places on
+unfoldable pub offset : ℕ → ℕ → ℕ
+offset s k = s * (k / 16) + k % 16
 
--- row i of the operands at a, of the given lines; row number `rows` is b
-unfoldable pub operand : (rows lines : ℕ) → List ℕ → (a i : ℕ) → ℕ → ℤ
-operand rows lines w a i = low (16 * lines) (λ k. reads w (a + 24 * i + 8 + place (24 * (rows + 1)) k))
+-- row i of the operands at a, which have `chunks` chunks each; row number `rows` is b
+unfoldable pub operand : (rows chunks : ℕ) → List ℕ → (a i : ℕ) → ℕ → ℤ
+operand rows chunks w a i = low (16 * chunks) (λ k. reads w (a + 24 * i + 8 + offset (24 * (rows + 1)) k))
 
 -- the zeros of the operands at a, which take n places
 abbrev pub Blank : (n : ℕ) → List ℕ → (a : ℕ) → Type 0

@@ -1,7 +1,8 @@
 // The plain products of 16 coefficients of one polynomial b with those of several others, the rows, modulo 65536, in one lent slice.
 //
-// Coefficients stand in lines of 16; a line of an operand has 8 zeros before it. Operands are laid line by line: the first line of each row,
-// then that of b, then the second lines, and so on; products likewise, without b and without zeros. So each window of a row is at hand.
+// Coefficients stand in chunks of 16; a chunk of an operand has 8 zeros before it. Operands are laid chunk by chunk: the first chunk of each
+// row, then that of b, then the second chunks, and so on; products the same, without b and without zeros. So each chunk of a row has 8 zeros
+// on each side, and every window of it is a part of the slice.
 ghost use mathlib.Core.Path.{_≡_};
 ghost use Prim.Native.Nat.{ℕ, _+_, _<_, _≤_};
 ghost use lib.IntN.{pos};
@@ -11,47 +12,47 @@ ghost use Rattle.algebra.specs.Integers.{Same};
 ghost use Rattle.algebra.specs.Halves.{window};
 ghost use Rattle.karatsuba_base.specs.Layout.{reads};
 ghost use Rattle.karatsuba_base.specs.Ensures.{Put, Lower, Upper, Plain};
-ghost use Rattle.karatsuba_base.specs.Requires.{Windows, PlainScratch};
+ghost use Rattle.karatsuba_base.specs.Requires.{TermsLengths, PlainScratch};
 use ring::times;
 use std::num;
 
-// The sum of p_i row_(t+8-i) for the eight i, modulo 65536.
-fn terms(p: &[u16], row: &[u16], t: usize) -> u16
-    requires { ⌜ Windows (length (now p)) (length (now row)) × (t < 24) ⌝ }
-    ensures { λ r. ⌜ Same 65536 (pos r) (window (reads (now (p .entry))) (reads (now (row .entry))) t) ⌝ }
+// The sum of p_i padded_(t+8-i) for the eight i, modulo 65536; `padded` holds sixteen coefficients between eight zeros on each side.
+fn terms(p: &[u16], padded: &[u16], t: usize) -> u16
+    requires { ⌜ TermsLengths (length (now p)) (length (now padded)) × (t < 24) ⌝ }
+    ensures { λ r. ⌜ Same 65536 (pos r) (window (reads (now (p .entry))) (reads (now (padded .entry))) t) ⌝ }
 {
     let mut s: u16 = 0;
     let mut i = 0;
     while i < p.len() {
-        s = num::wrapping_add_u16(s, times(p[i], row[t + 8 - i]));
+        s = num::wrapping_add_u16(s, times(p[i], padded[t + 8 - i]));
         i += 1;
     }
     s
 }
 
-// The product of eight coefficients and a row.
-fn lower(p: &[u16], row: &[u16]) -> [u16; 32]
-    requires { ⌜ Windows (length (now p)) (length (now row)) ⌝ }
-    ensures { λ r. ⌜ Lower (now (p .entry)) (now (row .entry)) 24 r ⌝ }
+// The product of eight coefficients and the padded sixteen.
+fn lower(p: &[u16], padded: &[u16]) -> [u16; 32]
+    requires { ⌜ TermsLengths (length (now p)) (length (now padded)) ⌝ }
+    ensures { λ r. ⌜ Lower (now (p .entry)) (now (padded .entry)) 24 r ⌝ }
 {
     let mut r = [0u16; 32];
     let mut k = 0;
     while k < 24 {
-        r[k] = terms(p, row, k);
+        r[k] = terms(p, padded, k);
         k += 1;
     }
     r
 }
 
-// The product of the next eight coefficients and the same row, added.
-fn upper(p: &[u16], row: &[u16], low: [u16; 32]) -> [u16; 32]
-    requires { ⌜ Windows (length (now p)) (length (now row)) ⌝ }
-    ensures { λ r. ⌜ Upper (now (p .entry)) (now (row .entry)) low 24 r ⌝ }
+// The product of the next eight coefficients and the same sixteen, added.
+fn upper(p: &[u16], padded: &[u16], low: [u16; 32]) -> [u16; 32]
+    requires { ⌜ TermsLengths (length (now p)) (length (now padded)) ⌝ }
+    ensures { λ r. ⌜ Upper (now (p .entry)) (now (padded .entry)) low 24 r ⌝ }
 {
     let mut r = low;
     let mut k = 0;
     while k < 24 {
-        r[k + 8] = num::wrapping_add_u16(low[k + 8], terms(p, row, k));
+        r[k + 8] = num::wrapping_add_u16(low[k + 8], terms(p, padded, k));
         k += 1;
     }
     r
@@ -88,11 +89,11 @@ fn plain_one(work: &mut [u16], a: usize, out: usize)
     requires { ⌜ PlainScratch 1 a out (now work) ⌝ }
     ensures { λ _. ⌜ Plain 1 1 a out (now (work .entry)) (now (work .exit)) ⌝ }
 {
-    let row = a + 32;
+    let b = a + 32;
     let mid = a + 40;
     let end = a + 48;
-    let low = lower(&work[row..mid], &work[a..row]);
-    let r = upper(&work[mid..end], &work[a..row], low);
+    let low = lower(&work[b..mid], &work[a..b]);
+    let r = upper(&work[mid..end], &work[a..b], low);
     put(&r[0..16], work, out);
     put(&r[16..32], work, out + 16);
 }

@@ -27,8 +27,8 @@ pub record Joined (out low q n : ℕ) (w w′ : List ℕ) : Type 0 where
   pub above : (p : ℕ) → out + q + q + q ≤ p → getD w′ p 0 ≡ getD w p 0
 
 -- the products by halves, at out; below `free` nothing else changes
-pub record Halved (rows lines a out free : ℕ) (w w′ : List ℕ) : Type 0 where
+pub record Halved (rows chunks a out free : ℕ) (w w′ : List ℕ) : Type 0 where
   pub size : length w′ ≡ length w
-  pub value : (j : ℕ) → lines ≡ 2 ^ j → Product rows (2 * lines) (λ i. split 16 j (operand rows lines w a rows) (operand rows lines w a i)) w′ out
+  pub value : (j : ℕ) → chunks ≡ 2 ^ j → Product rows (2 * chunks) (λ i. split 16 j (operand rows chunks w a rows) (operand rows chunks w a i)) w′ out
   pub below : (p : ℕ) → p < out → getD w′ p 0 ≡ getD w p 0
-  pub above : (p : ℕ) → out + 32 * (rows * lines) ≤ p → p < free → getD w′ p 0 ≡ getD w p 0
+  pub above : (p : ℕ) → out + 32 * (rows * chunks) ≤ p → p < free → getD w′ p 0 ≡ getD w p 0

@@ -1,7 +1,7 @@
 // The products of one polynomial b with several others, the rows, at once, by halves, modulo 65536 and with no X^n = -1.
 //
-// Everything stands in one lent slice and is named by its place, in the lines of the crate `lines`. The halves of a list of operands or of
-// products are such lists again, so sums and joins go over whole lists.
+// Everything stands in one lent slice and is named by its place, in chunks of 16 as `karatsuba_base` lays them. The halves of a list of
+// operands or of products are such lists again, so sums and joins go over whole lists.
 ghost use Prim.Native.Nat.{ℕ, _+_, _%_, _≤_};
 ghost use mathlib.Core.Path.{_≡_};
 ghost use lib.ListN.{length, getD};
@@ -81,18 +81,18 @@ fn join(work: &mut [u16], out: usize, low: usize, q: usize)
     }
 }
 
-// The product of b and each row, with no X^n = -1, for operands of so many lines: by halves down to one line, three half products in place
-// of four. The sums of the halves stand at `free`, their product and that of the upper halves at out, and then that of the lower halves at
-// `free`.
-pub fn split(rows: usize, lines: usize, work: &mut [u16], a: usize, out: usize, free: usize)
-    requires { ⌜ SplitScratch rows lines a out free (now work) ⌝ }
-    ensures { λ _. ⌜ Halved rows lines a out free (now (work .entry)) (now (work .exit)) ⌝ }
+// The product of b and each row, with no X^n = -1, for operands of `chunks` chunks, a power of two: by halves down to one chunk, with three
+// half products instead of four. The sums of the halves stand at `free`, their product and that of the upper halves at out, and then that of
+// the lower halves at `free`.
+pub fn split(rows: usize, chunks: usize, work: &mut [u16], a: usize, out: usize, free: usize)
+    requires { ⌜ SplitScratch rows chunks a out free (now work) ⌝ }
+    ensures { λ _. ⌜ Halved rows chunks a out free (now (work .entry)) (now (work .exit)) ⌝ }
 {
-    if lines == 1 {
+    if chunks == 1 {
         plain(rows, work, a, out);
         return;
     }
-    let half = lines / 2;
+    let half = chunks / 2;
     let q = 16 * (rows * half);
     let m = 24 * (rows * half + half);
     let rest = free + m + 8 * half;

@@ -13,8 +13,8 @@ ghost use Rattle.lwr.specs.Lwr.{roundedVector};
 ghost use Rattle.lwr.specs.Requires.{RoundedRowsScratch, VectorLengths, VectorScratch, InnerLengths};
 
 // `rows` rows of b', or of b where the matrix is transposed, from row `first` on: those of the matrix times a secret, rounded and packed to their
-// places in the output. The caller lends the places for the polynomials that are multiplied at once and then the rounded rows, and to work in, and
-// zeros for the exact rows.
+// places in the output. The caller lends a buffer for the polynomials that are multiplied at once and then for the rounded rows, scratch, and zeros
+// for the exact rows.
 fn rows_with(
     transposed: bool,
     l: usize,
@@ -39,8 +39,8 @@ fn rows_with(
     packing_vector::pack_vector_at(10, rows, cut, 320 * first, out);
 }
 
-// All of b' or b, at the front of the output, up to three rows at a time: each turn starts from zeros. The caller lends the places for the packed
-// matrix, for the polynomials that are multiplied at once, and to work in.
+// All of b' or b, at the front of the output, up to three rows at a time: each turn starts from zeros. The caller lends buffers for the packed
+// matrix and for the polynomials that are multiplied at once, and scratch.
 fn vector_with(
     transposed: bool,
     l: usize,
@@ -77,7 +77,7 @@ fn vector_with(
     }
 }
 
-// The same, with places of its own.
+// The same, with buffers of its own.
 pub fn vector_into(transposed: bool, l: usize, seed: &[u8], secret: &[u16], out: &mut [u8])
     requires { ⌜ VectorLengths l (length (now secret)) (length (now out)) ⌝ }
     ensures { λ _. ⌜ now (out .exit)
@@ -110,7 +110,7 @@ pub fn inner(l: usize, packed: &[u8], secret: &[u16]) -> [u16; 256]
     matrix::inner(l, packed, secret, &mut vector[0..n], &mut work)
 }
 
-// Both products of encryption with one secret, in the same places: b', at the front of the output, and the inner product of the packed vector b and
+// Both products of encryption with one secret, in the same buffers: b', at the front of the output, and the inner product of the packed vector b and
 // the secret, which is returned.
 pub fn both_into(l: usize, seed: &[u8], vector: &[u8], secret: &[u16], out: &mut [u8]) -> [u16; 256]
     requires { ⌜ VectorLengths l (length (now secret)) (length (now out)) × InnerLengths l (length (now vector)) (length (now secret)) ⌝ }

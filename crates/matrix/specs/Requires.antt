@@ -4,7 +4,7 @@ use mathlib.Core.List.{List}
 use mathlib.Core.Path.{_≡_}
 use lib.ListN.{replicate}
 
--- what `cut_into` asks: packed polynomials of w bits a coefficient, 1 to 16; the last row among them, and a place for each
+-- what `cut_into` requires: packed polynomials of w bits a coefficient, 1 to 16; the last row among them, and a place for each
 pub record CutLengths (w bytes start step rows out : ℕ) : Type 0 where
   pub least : 1 ≤ w
   pub most : w ≤ 16
@@ -13,8 +13,8 @@ pub record CutLengths (w bytes start step rows out : ℕ) : Type 0 where
   pub last : start + step * (rows - 1) < count
   pub fits : out ≡ 256 * rows
 
--- what `sums_into` asks: the same for the last column; up to four rows; the polynomials of s; places for those that are multiplied at once and to
--- work in; zeros for the sums
+-- what `sums_into` requires: the same for the last column; up to four rows; the polynomials of s; a buffer for those that are multiplied at once;
+-- scratch; zeros for the sums
 pub record SumsScratch (w rows l bytes start row column s cut work : ℕ) (out : List ℕ) : Type 0 where
   pub least : 1 ≤ w
   pub most : w ≤ 16
@@ -28,18 +28,18 @@ pub record SumsScratch (w rows l bytes start row column s cut work : ℕ) (out :
   pub scratch : 1256 * rows + 864 ≤ work
   pub zeros : out ≡ replicate (256 * rows) 0
 
--- what `inner_words` asks: two vectors, and places to work in
+-- what `inner_words` requires: two vectors, and scratch
 pub record WordsScratch (l a s work : ℕ) : Type 0 where
   pub first : a ≡ 256 * l
   pub second : s ≡ 256 * l
   pub scratch : 2120 ≤ work
 
--- what `inner` asks: a packed vector and another; places for the first one and to work in
+-- what `inner` requires: a packed vector and another; a buffer for the first one; scratch
 pub record InnerScratch (l vector s words work : ℕ) : Type 0 where
   pub packed : vector ≡ 320 * l
   pub fits : WordsScratch l words s work
 
--- what `rows_into` asks: up to three rows of a matrix, from `first` on; a vector; places for a polynomial of each and to work in at three rows;
+-- what `rows_into` requires: up to three rows of a matrix, from `first` on; a vector; a buffer for a polynomial of each; scratch for three rows;
 -- zeros for the products
 pub record RowsScratch (l A s first rows cut work : ℕ) (out : List ℕ) : Type 0 where
   pub some : 1 ≤ rows
@@ -51,7 +51,7 @@ pub record RowsScratch (l A s first rows cut work : ℕ) (out : List ℕ) : Type
   pub scratch : 4632 ≤ work
   pub zeros : out ≡ replicate (256 * rows) 0
 
--- what `product_into` asks: a matrix and a vector; places for three polynomials and to work in at three rows; zeros for all rows
+-- what `product_into` requires: a matrix and a vector; a buffer for three polynomials; scratch for three rows; zeros for all rows
 pub record ProductScratch (l A s cut work : ℕ) (out : List ℕ) : Type 0 where
   pub matrix : A ≡ 416 * (l * l)
   pub vector : s ≡ 256 * l

@@ -29,8 +29,8 @@ fn cut_into(width: u32, bytes: &[u8], start: usize, step: usize, rows: usize, ou
 }
 
 // For each i below `rows` the sum of l products, modulo 65536: of the packed polynomials that stand `column` places apart from place
-// `start` + `row` i on, and those of s. The caller lends zeros, to which each turn adds one product a row, and the places for the polynomials that
-// are multiplied at once and to work in.
+// `start` + `row` i on, and those of s. The caller lends zeros, to which each turn adds one product a row, a buffer for the polynomials that are
+// multiplied at once, and scratch.
 fn sums_into(
     width: u32,
     rows: usize,
@@ -60,8 +60,8 @@ fn sums_into(
     }
 }
 
-// The inner product of two vectors of l polynomials, modulo 65536: zeros, to which each turn adds one product. The caller lends the places to work
-// in.
+// The inner product of two vectors of l polynomials, modulo 65536: zeros, to which each turn adds one product. The caller lends the
+// scratch.
 pub fn inner_words(l: usize, a: &[u16], s: &[u16], work: &mut [u16]) -> [u16; 256]
     requires { ⌜ WordsScratch l (length (now a)) (length (now s)) (length (now work)) ⌝ }
     ensures { λ r. ⌜ r ≡ innerMod 65536 l (now (a .entry)) (nat (now (s .entry))) ⌝ }
@@ -77,8 +77,8 @@ pub fn inner_words(l: usize, a: &[u16], s: &[u16], work: &mut [u16]) -> [u16; 25
     acc
 }
 
-// The inner product of a vector of l polynomials, packed in 10 bits a coefficient, and s, modulo 1024. The caller lends the places for the vector
-// and to work in.
+// The inner product of a vector of l polynomials, packed in 10 bits a coefficient, and s, modulo 1024. The caller lends a buffer for the
+// vector, and scratch.
 pub fn inner(l: usize, vector: &[u8], s: &[u16], words: &mut [u16], work: &mut [u16]) -> [u16; 256]
     requires { ⌜ InnerScratch l (length (now vector)) (length (now s)) (length (now words)) (length (now work)) ⌝ }
     ensures { λ r. ⌜ r ≡ innerMod 1024 l (unpacked 10 (now (vector .entry))) (nat (now (s .entry))) ⌝ }

@@ -9,8 +9,8 @@ use borrow.Author.Tests.{lt-ltb, le-ltb}
 use Rattle.algebra.specs.Integers.{Same}
 use Rattle.algebra.specs.Halves.{plus, slides, conv, low, high, joined, split, Degree}
 use Rattle.algebra.specs.Laws.Whole.{eqℤ, add-split, up-neg, dn-neg}
-use Rattle.algebra.specs.Laws.Lines.{slides-low, slides-high, slides-plus, conv-plus, conv-plus-left, conv-slides}
-use Rattle.algebra.specs.Laws.Lines.{conv-slides-right, conv-past, conv-same}
+use Rattle.algebra.specs.Laws.Convolution.{slides-low, slides-high, slides-plus, conv-plus, conv-plus-left, conv-slides}
+use Rattle.algebra.specs.Laws.Convolution.{conv-slides-right, conv-past, conv-same}
 
 pub low-below : (h : ℕ) (f : ℕ → ℤ) (k : ℕ) → k < h → low h f k ≡ f k
 unfolding low

@@ -1,5 +1,5 @@
 -- Polynomials that act on an abelian group: scale c u is a scalar times u, X u the variable times u.
--- No law of a product of scalars is asked but that two of them commute, and no length of a list.
+-- The only law of a product of scalars that is needed is that two of them commute. No length of a list is needed.
 use Prim.Native.Nat.{ℕ, zero, suc}
 use mathlib.Core.List.{List, [], _∷_}
 use mathlib.Core.Path.{_≡_, refl, sym, _∙_, ap}

@@ -11,7 +11,7 @@ use Rattle.algebra.specs.Integers.{sum}
 use Rattle.algebra.specs.Ring.{at, coef, inner}
 use Rattle.algebra.specs.Halves.{conv}
 use Rattle.algebra.specs.Laws.Sums.{sum-cong, sum-reverse}
-use Rattle.algebra.specs.Laws.Lines.{conv-comm}
+use Rattle.algebra.specs.Laws.Convolution.{conv-comm}
 use Rattle.algebra.specs.Laws.Module.{acts, adjoint}
 use Rattle.algebra.specs.Laws.Operators.{ops, laws, acts-below, act-coef}
 

@@ -16,9 +16,9 @@ Inv-loop work x s out₀ g₀ out g = (g ≤ 16) × Put 0 (16 * g) (foldRow work
 abbrev μ-loop : tie.MeasureT-loop
 μ-loop work x s out₀ g₀ out g = 16 - g
 
--- line g of the product, and line g + 16
-line : (c : tie.In-loop Inv-loop μ-loop) → let x = c .before .before .before .before .args in x .s * c .before .loop .g ≤ x .s * 15
-line c = mul-le-mul-left (c .before .before .before .before .args .s) (let h : c .before .loop .g ≤ 15 = omega arith in h)
+-- chunk g of the product, and chunk g + 16
+chunk : (c : tie.In-loop Inv-loop μ-loop) → let x = c .before .before .before .before .args in x .s * c .before .loop .g ≤ x .s * 15
+chunk c = mul-le-mul-left (c .before .before .before .before .args .s) (let h : c .before .loop .g ≤ 15 = omega arith in h)
 
 pub fold-row-spec : {M : Type 1} → statement M
 fold-row-spec =
@@ -27,15 +27,15 @@ fold-row-spec =
     Inv-loop
     μ-loop
     (λ c. (omega arith, put-none))
-    (λ c. omega (arith, line c))
-    (λ c. omega (arith, line c))
-    (λ c. omega (arith, line c))
-    (λ c. omega (arith, line c))
+    (λ c. omega (arith, chunk c))
+    (λ c. omega (arith, chunk c))
+    (λ c. omega (arith, chunk c))
+    (λ c. omega (arith, chunk c))
     (λ c. omega arith)
     (λ c κs.
     let p = c .before .before .before .before .before .pre in
     let l = c .before .before .loop .inv .1 .size in
-    record { first = omega (arith, line (c .before), p .0); second = omega (arith, line (c .before), p .0); third = omega (arith, l, p .1) })
+    record { first = omega (arith, chunk (c .before), p .0); second = omega (arith, chunk (c .before), p .0); third = omega (arith, l, p .1) })
     (λ c. omega arith)
     (λ c. omega arith)
     (λ c κs.

@@ -1,4 +1,4 @@
--- `karatsuba::lay` meets its contract: one line of each operand a turn.
+-- `karatsuba::lay` meets its contract: one chunk of each operand a turn.
 use Prim.Native.Nat.{suc, _≤_, _+_, _*_, _-_}
 use mathlib.Core.Path.{_≡_}
 use native.Mathlib.Nat.{mul-suc, mul-le-mul-left}
@@ -15,7 +15,7 @@ Inv-loop rows a b work₀ g₀ work g = (g ≤ 16) × Laid rows (source rows a b
 abbrev μ-loop : tie.MeasureT-loop
 μ-loop rows a b work₀ g₀ work g = 16 - g
 
--- line g stands in the slice
+-- chunk g stands in the slice
 within :
     (c : tie.In-loop Inv-loop μ-loop) →
     let x = c .before .before .before .before .before .args in
@@ -38,10 +38,10 @@ lay-spec =
     (λ c. omega (arith, within (c .before)))
     (λ c κs.
     let p = c .before .before .before .before .before .before .pre in
-    record { factors = p .factors; factor = p .factor; lines = c .before .loop-test .taken; left = omega (arith, within (c .before)) })
+    record { factors = p .factors; factor = p .factor; chunks = c .before .loop-test .taken; left = omega (arith, within (c .before)) })
     (λ c. omega arith)
     (λ c. omega arith)
-    (λ c. (omega arith, lay-more (c .before .before .before .before .before .loop .inv .1) (c .before .before .lay-line .ensures)))
+    (λ c. (omega arith, lay-more (c .before .before .before .before .before .loop .inv .1) (c .before .before .lay-chunk .ensures)))
     (λ c. c .before .loop .inv .1 .size)
     (λ c.
     let e : c .before .loop .g ≡ 16 = omega arith in

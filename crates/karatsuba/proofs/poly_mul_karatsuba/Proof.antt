@@ -1,4 +1,4 @@
--- `karatsuba::poly_mul_karatsuba` meets its contract: an answer of 0 gives the inner functions what they ask, and any other leaves the
+-- `karatsuba::poly_mul_karatsuba` meets its contract: an answer of 0 gives the inner functions what they require, and any other leaves the
 -- output alone.
 use native.Mathlib.Omega.{arith}
 use borrow.Author.Needs.{needs}

@@ -14,11 +14,11 @@ use Rattle.lists.specs.Laws.Lists.{from-at, length-from}
 use Rattle.algebra.specs.Integers.{modℤ}
 use Rattle.algebra.specs.Ring.{poly, blocks}
 use Rattle.algebra.specs.Laws.Residues.{mod-of, same-refl, same-trans, same-add, same-plus, same-minus}
-use Rattle.karatsuba_base.specs.Layout.{place}
+use Rattle.karatsuba_base.specs.Layout.{offset}
 use Rattle.karatsuba_base.specs.Ensures.{Put}
 use Rattle.karatsuba.specs.Ensures.{foldAt, foldRow}
 use Rattle.karatsuba_base.specs.Laws.Put.{put-next, put-to}
-use Rattle.karatsuba_base.specs.Laws.Places.{place-add, place-first}
+use Rattle.karatsuba_base.specs.Laws.Places.{offset-add, offset-first}
 
 -- one place: z + x - y
 pub fold-one : (x y z d : ℕ) {r : ℕ} → (d + y) % 65536 ≡ x → r ≡ (z + d) % 65536 → r ≡ modℤ (pos z +ℤ (pos x -ℤ pos y)) 65536
@@ -39,9 +39,9 @@ fold-next w x s g {r} {old} {out} h e u =
   where
     same : (k : ℕ) → k < 16 → foldAt w (x + s * g) (x + s * g + 16 * s) out (16 * g) k ≡ foldRow w x s old (16 * g + k)
     same k hk =
-        let first : x + s * g + k ≡ x + place s (16 * g + k) = omega (arith, place-add s g k, place-first s k hk) in
+        let first : x + s * g + k ≡ x + offset s (16 * g + k) = omega (arith, offset-add s g k, offset-first s k hk) in
         let up : 256 + (16 * g + k) ≡ 16 * (16 + g) + k = omega arith in
-        let last : x + s * g + 16 * s + k ≡ x + place s (16 * (16 + g) + k) = omega (arith, place-add s (16 + g) k, place-first s k hk) in
+        let last : x + s * g + 16 * s + k ≡ x + offset s (16 * (16 + g) + k) = omega (arith, offset-add s (16 + g) k, offset-first s k hk) in
         rw (h .above (16 * g + k) (omega arith), first, up, last) refl
 
 -- ---- rows written one after another over what stood there

@@ -16,19 +16,19 @@ use Rattle.algebra.specs.Laws.Reduced.{at-nat}
 use Rattle.algebra.specs.Laws.Product.{coef-comm}
 use Rattle.algebra.specs.Laws.Vectors.{blocks-cong}
 use Rattle.algebra.specs.Laws.Halves.{split-conv}
-use Rattle.algebra.specs.Laws.Lines.{conv-same, coef-conv}
-use Rattle.karatsuba_base.specs.Layout.{reads, place, operand}
+use Rattle.algebra.specs.Laws.Convolution.{conv-same, coef-conv}
+use Rattle.karatsuba_base.specs.Layout.{reads, offset, operand}
 use Rattle.karatsuba_split.specs.Ensures.{Halved}
 use Rattle.karatsuba_split.specs.Requires.{SplitScratch}
 use Rattle.karatsuba.specs.Ensures.{foldRow, Laid, source, rowsAdded}
 use Rattle.karatsuba.specs.Requires.{RowsScratch}
 use Rattle.karatsuba.specs.Laws.Lay.{laid-blank, laid-operand, source-row, source-last}
 
--- one row: p in its place, b behind the rows
+-- one row: p as row i, b behind the rows
 module _ {rows x free i : ℕ} {w w′ : List ℕ} (p b : List ℕ) (lp : length p ≡ 256) (lb : length b ≡ 256) (hi : i < rows)
     (ep : (k : ℕ) → operand rows 16 w 0 i k ≡ reads p k) (eb : (k : ℕ) → operand rows 16 w 0 rows k ≡ reads b k) (h : Halved rows 16 0 x free w w′) where
-  line-same : (k : ℕ) → k < 512 → Same 65536 (reads w′ (x + 16 * i + place (16 * rows) k)) (conv (at (nat b)) (at (nat p)) k)
-  line-same k hk =
+  product-same : (k : ℕ) → k < 512 → Same 65536 (reads w′ (x + 16 * i + offset (16 * rows) k)) (conv (at (nat b)) (at (nat p)) k)
+  product-same k hk =
       same-trans (h .value 4 refl i k hi hk)
       (rw (split-conv 16 4 (operand rows 16 w 0 rows) (operand rows 16 w 0 i) k)
       (conv-same _ _ _ _ (λ n. same-eq (eb n ∙ sym (at-nat b n))) (λ n. same-eq (ep n ∙ sym (at-nat p n))) k))
@@ -38,7 +38,7 @@ module _ {rows x free i : ℕ} {w w′ : List ℕ} (p b : List ℕ) (lp : length
   row-coef old k hk =
       mod-of 65536 (omega arith)
       (same-add (same-eq (sym (at-nat old k)))
-      (same-trans (same-add (line-same k (omega arith)) (same-neg (line-same (256 + k) (omega arith))))
+      (same-trans (same-add (product-same k (omega arith)) (same-neg (product-same (256 + k) (omega arith))))
       (same-eq (sym (coef-comm 256 (nat p) (nat b) k hk ∙ coef-conv 256 (nat b) (nat p) (long b lb) (long p lp) k hk)))))
     where
       long : (c : List ℕ) → length c ≡ 256 → length (nat c) ≤ 256

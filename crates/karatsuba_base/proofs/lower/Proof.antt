@@ -9,10 +9,10 @@ use Rattle.karatsuba_base.proofs.lower.Statement.{statement}
 use Rattle.karatsuba_base.proofs.lower.Tie as tie
 
 abbrev Inv-loop : tie.InvT-loop
-Inv-loop p row r₀ k₀ r k = (k ≤ 24) × Lower p row k r
+Inv-loop p padded r₀ k₀ r k = (k ≤ 24) × Lower p padded k r
 
 abbrev μ-loop : tie.MeasureT-loop
-μ-loop p row r₀ k₀ r k = 24 - k
+μ-loop p padded r₀ k₀ r k = 24 - k
 
 pub lower-spec : {M : Type 1} → statement M
 lower-spec =

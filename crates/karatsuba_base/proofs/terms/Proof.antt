@@ -13,10 +13,10 @@ use Rattle.karatsuba_base.proofs.terms.Statement.{statement}
 use Rattle.karatsuba_base.proofs.terms.Tie as tie
 
 abbrev Inv-loop : tie.InvT-loop
-Inv-loop p row t s₀ i₀ s i = (i ≤ 8) × Same 65536 (pos s) (sum i (λ (i : ℕ). reads p i *ℤ reads row (t + 8 - i)))
+Inv-loop p padded t s₀ i₀ s i = (i ≤ 8) × Same 65536 (pos s) (sum i (λ (i : ℕ). reads p i *ℤ reads padded (t + 8 - i)))
 
 abbrev μ-loop : tie.MeasureT-loop
-μ-loop p row t s₀ i₀ s i = 8 - i
+μ-loop p padded t s₀ i₀ s i = 8 - i
 
 loop-holds : tie.Need-loop-holds Inv-loop μ-loop
 unfolding sum
@@ -26,7 +26,7 @@ loop-again : tie.Need-loop-again Inv-loop μ-loop
 loop-again c =
     let d = c .before .before .before .before .before in
     let x = d .before .before .before .args in
-    let f : ℕ → ℤ = λ i. reads (x .p .now) i *ℤ reads (x .row .now) (x .t + 8 - i) in
+    let f : ℕ → ℤ = λ i. reads (x .p .now) i *ℤ reads (x .padded .now) (x .t + 8 - i) in
     (omega arith, terms-more f (d .loop .i) _ _ (d .loop .inv .1) refl (c .before .times .ensures) (c .wrapping-add-u16 .ensures))
 
 returns : tie.Need-returns Inv-loop μ-loop

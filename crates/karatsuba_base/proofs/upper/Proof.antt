@@ -9,10 +9,10 @@ use Rattle.karatsuba_base.proofs.upper.Statement.{statement}
 use Rattle.karatsuba_base.proofs.upper.Tie as tie
 
 abbrev Inv-loop : tie.InvT-loop
-Inv-loop p row low r₀ k₀ r k = (k ≤ 24) × Upper p row low k r
+Inv-loop p padded low r₀ k₀ r k = (k ≤ 24) × Upper p padded low k r
 
 abbrev μ-loop : tie.MeasureT-loop
-μ-loop p row low r₀ k₀ r k = 24 - k
+μ-loop p padded low r₀ k₀ r k = 24 - k
 
 pub upper-spec : {M : Type 1} → statement M
 upper-spec =

@@ -1,4 +1,4 @@
--- `karatsuba_split::split` meets its contract, by one argument over the number of lines, which falls at each call.
+-- `karatsuba_split::split` meets its contract, by one argument over the number of chunks, which falls at each call.
 use Prim.Native.Nat.{ℕ, _<_, _/_}
 use mathlib.Core.Path.{refl, _∙_}
 use native.Mathlib.Omega.{arith}
@@ -25,16 +25,16 @@ split-at t = and 1 split-kinds.ps (is 1 split-kinds.ps μ-split t) split.Pre
 abbrev split-below : ℕ → In 1 split-kinds.ps
 split-below t = and 1 split-kinds.ps (falls 1 split-kinds.ps _<_ μ-split t) split.Pre
 
--- with more than one line
+-- with more than one chunk
 halved :
     (t : ℕ)
     (o : split-lts.Else1
     (plain-reads.Asked, plain-reads.Learnt, add-reads.Asked, add-reads.Learnt, split-below t, split.Post, join-reads.Asked, join-reads.Learnt)
     (split-at t) split.Post) →
-    Half (o .before .before .args .lines) (o .before .before .args .lines / 2)
-halved t o = let r = o .before .before .pre .1 in half (o .before .before .args .lines) (r .depth) (r .sized) (o .if1 .left)
+    Half (o .before .before .args .chunks) (o .before .before .args .chunks / 2)
+halved t o = let r = o .before .before .pre .1 in half (o .before .before .args .chunks) (r .depth) (r .sized) (o .if1 .left)
 
--- each step of a level stands four places behind the one before it
+-- each step of a level stands four points behind the one before it
 pub +split-spec : {M : Type 1} → statement M
 +split-spec = close μ-split λ t. split-lts.spec
     (plain-reads.Asked, plain-reads.Learnt, add-reads.Asked, add-reads.Learnt, split-below t, split.Post, join-reads.Asked, join-reads.Learnt)
@@ -75,7 +75,7 @@ pub +split-spec : {M : Type 1} → statement M
     let r = s .pre .1 in
     let x = halved t o in (
       omega (arith, s .pre .0, x .even, least r x),
-      scratch-high r x (a .add .ensures .size) (blank-high (s .args .rows) (s .args .lines / 2) _ _ (s .args .a) (s .args .out) (s .args .free) _ refl refl (fields r x) (blank-both r x)
+      scratch-high r x (a .add .ensures .size) (blank-high (s .args .rows) (s .args .chunks / 2) _ _ (s .args .a) (s .args .out) (s .args .free) _ refl refl (fields r x) (blank-both r x)
           (a .add .ensures)),
     ))
     (λ c κs.
@@ -87,7 +87,7 @@ pub +split-spec : {M : Type 1} → statement M
     let x = halved t o in (
       omega (arith, s .pre .0, x .even, least r x),
       scratch-mid r x (h .split .ensures .size ∙ a .add .ensures .size)
-          (blank-mid (s .args .rows) (s .args .lines / 2) _ _ (s .args .a) (s .args .out) (s .args .free) _ refl refl (fields r x) (blank-both r x)
+          (blank-mid (s .args .rows) (s .args .chunks / 2) _ _ (s .args .a) (s .args .out) (s .args .free) _ refl refl (fields r x) (blank-both r x)
           (a .add .ensures) (h .split .ensures)),
     ))
     (λ c κs.
@@ -100,7 +100,7 @@ pub +split-spec : {M : Type 1} → statement M
     let x = halved t o in (
       omega (arith, s .pre .0, x .even, least r x),
       scratch-low r x (m .split2 .ensures .size ∙ h .split .ensures .size ∙ a .add .ensures .size)
-          (blank-low (s .args .rows) (s .args .lines / 2) _ _ (s .args .a) (s .args .out) (s .args .free) _ refl refl (fields r x) (blank-both r x)
+          (blank-low (s .args .rows) (s .args .chunks / 2) _ _ (s .args .a) (s .args .out) (s .args .free) _ refl refl (fields r x) (blank-both r x)
           (a .add .ensures) (h .split .ensures) (m .split2 .ensures)),
     ))
     (λ c κs.
@@ -128,5 +128,5 @@ pub +split-spec : {M : Type 1} → statement M
     let s = o .before .before in
     let r = s .pre .1 in
     let x = halved t o in
-    rw (← x .even) at (level (s .args .rows) (s .args .lines / 2) _ _ (s .args .a) (s .args .out) (s .args .free) _ refl refl (fields r x) (blank-both r x)
+    rw (← x .even) at (level (s .args .rows) (s .args .chunks / 2) _ _ (s .args .a) (s .args .out) (s .args .free) _ refl refl (fields r x) (blank-both r x)
     (a .add .ensures) (h .split .ensures) (m .split2 .ensures) (l .split3 .ensures) (j .join .ensures)))

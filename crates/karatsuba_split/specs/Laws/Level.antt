@@ -12,12 +12,12 @@ use Rattle.algebra.specs.Integers.{Same}
 use Rattle.algebra.specs.Halves.{plus, low, high, joined, split, Degree}
 use Rattle.algebra.specs.Laws.Residues.{same-eq, same-trans, same-add, same-neg, same-plus}
 use Rattle.algebra.specs.Laws.Halves.{low-past, split-more, split-past, split-same, quarter0, quarter1, quarter2, quarter3}
-use Rattle.karatsuba_base.specs.Layout.{reads, place, operand, Blank, Apart}
+use Rattle.karatsuba_base.specs.Layout.{reads, offset, operand, Blank, Apart}
 use Rattle.karatsuba_base.specs.Ensures.{Put}
 use Rattle.karatsuba_split.specs.Ensures.{Joined, Halved}
 use Rattle.karatsuba_base.specs.Laws.Places.{operand-at, operand-past, operand-in, operand-same, operand-low, operand-high, product-at, product-in}
 
--- the law of the halves, with c lines for 2^j
+-- the law of the halves, with c chunks for 2^j
 split-level :
     (c j : ℕ) → c ≡ 2 ^ j → (f g : ℕ → ℤ) (k : ℕ) →
     split 16 (suc j) f g k
@@ -50,9 +50,9 @@ module _ (rows c q m a out free rest : ℕ) (eq : q ≡ 16 * (rows * c)) (em : m
       Same 65536 (operand rows c w1 free i k) (operand rows c w0 a i k +ℤ operand rows c w0 (a + m) i k)
   sums-at i hi k (yes h) =
       rw (operand-at rows c w1 free i k h, operand-at rows c w0 a i k h, operand-at rows c w0 (a + m) i k h, to free, to a, to (a + m))
-      (same-plus _ _ (s1 .value (24 * i + 8 + place (24 * (rows + 1)) k) (omega (arith, operand-in rows c i k hi h))))
+      (same-plus _ _ (s1 .value (24 * i + 8 + offset (24 * (rows + 1)) k) (omega (arith, operand-in rows c i k hi h))))
     where
-      to : (b : ℕ) → b + 24 * i + 8 + place (24 * (rows + 1)) k ≡ b + (24 * i + 8 + place (24 * (rows + 1)) k)
+      to : (b : ℕ) → b + 24 * i + 8 + offset (24 * (rows + 1)) k ≡ b + (24 * i + 8 + offset (24 * (rows + 1)) k)
       to b = omega arith
   sums-at i hi k (no h) =
       let l : 16 * c ≤ k = omega arith in
@@ -114,38 +114,38 @@ module _ (rows c q m a out free rest : ℕ) (eq : q ≡ 16 * (rows * c)) (em : m
               (same-trans (sums-at n hn k (decLt k (16 * c))) (same-eq (ap₂ _+ℤ_ (sym (operand-low rows c w0 a n k)) (high-is n hn k))))
 
           -- the half products as the join finds them
-          low-at : (k : ℕ) → k < 16 * (2 * c) → Same 65536 (reads w4 (free + 16 * i + place (16 * rows) k)) (L k)
+          low-at : (k : ℕ) → k < 16 * (2 * c) → Same 65536 (reads w4 (free + 16 * i + offset (16 * rows) k)) (L k)
           unfolding L f g
           low-at k hk =
               same-trans (s4 .value j ec i k hi hk)
               (split-same 16 j _ _ _ _ (λ n. same-eq (low-is rows (omega arith) n)) (λ n. same-eq (low-is i (omega arith) n)) k)
 
-          within : (k : ℕ) → k < 16 * (2 * c) → 16 * i + place (16 * rows) k < q + q
+          within : (k : ℕ) → k < 16 * (2 * c) → 16 * i + offset (16 * rows) k < q + q
           within k hk = omega (arith, product-in rows (2 * c) i k hi hk)
 
-          mid-at : (k : ℕ) → k < 16 * (2 * c) → Same 65536 (reads w4 (out + 16 * i + place (16 * rows) k)) (M k)
+          mid-at : (k : ℕ) → k < 16 * (2 * c) → Same 65536 (reads w4 (out + 16 * i + offset (16 * rows) k)) (M k)
           unfolding M f g
           mid-at k hk =
-              rw (s4 .below (out + 16 * i + place (16 * rows) k) (omega (arith, r .product, within k hk)))
+              rw (s4 .below (out + 16 * i + offset (16 * rows) k) (omega (arith, r .product, within k hk)))
               (same-trans (s3 .value j ec i k hi hk) (split-same 16 j _ _ _ _ (mid-is rows (omega arith)) (mid-is i (omega arith)) k))
 
-          high-at : (k : ℕ) → k < 16 * (2 * c) → Same 65536 (reads w4 (out + q + q + 16 * i + place (16 * rows) k)) (H k)
+          high-at : (k : ℕ) → k < 16 * (2 * c) → Same 65536 (reads w4 (out + q + q + 16 * i + offset (16 * rows) k)) (H k)
           unfolding H f g
           high-at k hk =
-              let p = out + q + q + 16 * i + place (16 * rows) k in
+              let p = out + q + q + 16 * i + offset (16 * rows) k in
               rw (
-                s4 .below (out + q + q + 16 * i + place (16 * rows) k) (omega (arith, r .product, within k hk)),
-                s3 .above (out + q + q + 16 * i + place (16 * rows) k) (omega arith) (omega (arith, r, within k hk)),
+                s4 .below (out + q + q + 16 * i + offset (16 * rows) k) (omega (arith, r .product, within k hk)),
+                s3 .above (out + q + q + 16 * i + offset (16 * rows) k) (omega arith) (omega (arith, r, within k hk)),
               )
               (same-trans (s2 .value j ec i k hi hk)
               (split-same 16 j _ _ _ _ (λ n. same-eq (high-kept rows (omega arith) n ∙ high-is rows (omega arith) n))
               (λ n. same-eq (high-kept i (omega arith) n ∙ high-is i (omega arith) n)) k))
 
           -- the same by halves: coefficient k below 16 c, and 16 c on
-          first : (b : ℕ) (k : ℕ) → b + 16 * i + place (16 * rows) k ≡ b + (16 * i + place (16 * rows) k)
+          first : (b : ℕ) (k : ℕ) → b + 16 * i + offset (16 * rows) k ≡ b + (16 * i + offset (16 * rows) k)
           first b k = omega arith
 
-          next : (b : ℕ) (k : ℕ) → b + 16 * i + place (16 * rows) (16 * c + k) ≡ b + q + (16 * i + place (16 * rows) k)
+          next : (b : ℕ) (k : ℕ) → b + 16 * i + offset (16 * rows) (16 * c + k) ≡ b + q + (16 * i + offset (16 * rows) k)
           next b k = product-at rows c b i k ∙ omega arith
 
           -- and nothing stands above their degrees
@@ -168,52 +168,52 @@ module _ (rows c q m a out free rest : ℕ) (eq : q ≡ 16 * (rows * c)) (em : m
           H-past = half-past c j ec _ _ (top rows) (top i)
 
           module _ (k : ℕ) (hk : k < 16 * c) where
-            low0 : Same 65536 (reads w4 (free + (16 * i + place (16 * rows) k))) (L k)
+            low0 : Same 65536 (reads w4 (free + (16 * i + offset (16 * rows) k))) (L k)
             low0 = rw (first free k) at (low-at k (omega arith))
 
-            low1 : Same 65536 (reads w4 (free + q + (16 * i + place (16 * rows) k))) (L (16 * c + k))
+            low1 : Same 65536 (reads w4 (free + q + (16 * i + offset (16 * rows) k))) (L (16 * c + k))
             low1 = rw (next free k) at (low-at (16 * c + k) (omega arith))
 
-            mid0 : Same 65536 (reads w4 (out + (16 * i + place (16 * rows) k))) (M k)
+            mid0 : Same 65536 (reads w4 (out + (16 * i + offset (16 * rows) k))) (M k)
             mid0 = rw (first out k) at (mid-at k (omega arith))
 
-            mid1 : Same 65536 (reads w4 (out + q + (16 * i + place (16 * rows) k))) (M (16 * c + k))
+            mid1 : Same 65536 (reads w4 (out + q + (16 * i + offset (16 * rows) k))) (M (16 * c + k))
             mid1 = rw (next out k) at (mid-at (16 * c + k) (omega arith))
 
-            high0 : Same 65536 (reads w4 (out + q + q + (16 * i + place (16 * rows) k))) (H k)
+            high0 : Same 65536 (reads w4 (out + q + q + (16 * i + offset (16 * rows) k))) (H k)
             high0 = rw (first (out + q + q) k) at (high-at k (omega arith))
 
-            high1 : Same 65536 (reads w4 (out + q + q + q + (16 * i + place (16 * rows) k))) (H (16 * c + k))
+            high1 : Same 65536 (reads w4 (out + q + q + q + (16 * i + offset (16 * rows) k))) (H (16 * c + k))
             high1 = rw (next (out + q + q) k) at (high-at (16 * c + k) (omega arith))
 
-            inside : 16 * i + place (16 * rows) k < q
+            inside : 16 * i + offset (16 * rows) k < q
             inside = omega (arith, product-in rows c i k hi hk)
 
             less : {u v x u′ v′ x′ : ℤ} → Same 65536 u u′ → Same 65536 v v′ → Same 65536 x x′ → Same 65536 (u -ℤ v -ℤ x) (u′ -ℤ v′ -ℤ x′)
             less p n o = same-add (same-add p (same-neg n)) (same-neg o)
 
             -- the four quarters
-            quarter-first : Same 65536 (reads w5 (out + (16 * i + place (16 * rows) k))) (joined (16 * c) L M H k)
-            quarter-first = rw (s5 .one (16 * i + place (16 * rows) k) inside, quarter0 (16 * c) L M H k hk) low0
+            quarter-first : Same 65536 (reads w5 (out + (16 * i + offset (16 * rows) k))) (joined (16 * c) L M H k)
+            quarter-first = rw (s5 .one (16 * i + offset (16 * rows) k) inside, quarter0 (16 * c) L M H k hk) low0
 
-            quarter-second : Same 65536 (reads w5 (out + q + (16 * i + place (16 * rows) k))) (joined (16 * c) L M H (16 * c + k))
+            quarter-second : Same 65536 (reads w5 (out + q + (16 * i + offset (16 * rows) k))) (joined (16 * c) L M H (16 * c + k))
             quarter-second =
                 rw (quarter1 (16 * c) L M H k hk)
-                (same-trans (s5 .two (16 * i + place (16 * rows) k) inside) (same-add low1 (less mid0 low0 high0)))
+                (same-trans (s5 .two (16 * i + offset (16 * rows) k) inside) (same-add low1 (less mid0 low0 high0)))
 
-            quarter-third : Same 65536 (reads w5 (out + q + q + (16 * i + place (16 * rows) k))) (joined (16 * c) L M H (16 * c + 16 * c + k))
+            quarter-third : Same 65536 (reads w5 (out + q + q + (16 * i + offset (16 * rows) k))) (joined (16 * c) L M H (16 * c + 16 * c + k))
             quarter-third =
                 rw (quarter2 (16 * c) L M H L-past k)
-                (same-trans (s5 .three (16 * i + place (16 * rows) k) inside) (same-add high0 (less mid1 low1 high1)))
+                (same-trans (s5 .three (16 * i + offset (16 * rows) k) inside) (same-add high0 (less mid1 low1 high1)))
 
             quarter-last :
-                Same 65536 (reads w5 (out + q + q + q + (16 * i + place (16 * rows) k))) (joined (16 * c) L M H (16 * c + 16 * c + 16 * c + k))
+                Same 65536 (reads w5 (out + q + q + q + (16 * i + offset (16 * rows) k))) (joined (16 * c) L M H (16 * c + 16 * c + 16 * c + k))
             quarter-last =
-                rw (s5 .above (out + q + q + q + (16 * i + place (16 * rows) k)) (omega arith), quarter3 (16 * c) L M H L-past M-past H-past k) high1
+                rw (s5 .above (out + q + q + q + (16 * i + offset (16 * rows) k)) (omega arith), quarter3 (16 * c) L M H L-past M-past H-past k) high1
 
           joined-at :
               (k : ℕ) → k < 16 * (2 * (c + c)) → Dec (k < 16 * c) → Dec (k < 16 * c + 16 * c) → Dec (k < 16 * c + 16 * c + 16 * c) →
-              Same 65536 (reads w5 (out + 16 * i + place (16 * rows) k)) (joined (16 * c) L M H k)
+              Same 65536 (reads w5 (out + 16 * i + offset (16 * rows) k)) (joined (16 * c) L M H k)
           joined-at k hk (yes l) d e = rw (first out k) (quarter-first k l)
           joined-at k hk (no l) (yes d) e =
               let n = k - 16 * c in
@@ -222,19 +222,19 @@ module _ (rows c q m a out free rest : ℕ) (eq : q ≡ 16 * (rows * c)) (em : m
           joined-at k hk (no l) (no d) (yes e) =
               let n = k - (16 * c + 16 * c) in
               let b : k ≡ 16 * c + 16 * c + n = omega arith in
-              let x : out + 16 * i + place (16 * rows) (16 * c + 16 * c + n) ≡ out + q + q + (16 * i + place (16 * rows) n) =
-              (let y : 16 * (c + c) + n ≡ 16 * c + 16 * c + n = omega arith in omega (arith, product-at rows (c + c) out i n, ap (place (16 * rows)) y)) in
+              let x : out + 16 * i + offset (16 * rows) (16 * c + 16 * c + n) ≡ out + q + q + (16 * i + offset (16 * rows) n) =
+              (let y : 16 * (c + c) + n ≡ 16 * c + 16 * c + n = omega arith in omega (arith, product-at rows (c + c) out i n, ap (offset (16 * rows)) y)) in
               rw (b, x) (quarter-third n (omega arith))
           joined-at k hk (no l) (no d) (no e) =
               let n = k - (16 * c + 16 * c + 16 * c) in
               let b : k ≡ 16 * c + 16 * c + 16 * c + n = omega arith in
-              let x : out + 16 * i + place (16 * rows) (16 * c + 16 * c + 16 * c + n) ≡ out + q + q + q + (16 * i + place (16 * rows) n) =
-              (let y : 16 * (c + c + c) + n ≡ 16 * c + 16 * c + 16 * c + n = omega arith in omega (arith, product-at rows (c + c + c) out i n, ap (place (16 * rows)) y)) in
+              let x : out + 16 * i + offset (16 * rows) (16 * c + 16 * c + 16 * c + n) ≡ out + q + q + q + (16 * i + offset (16 * rows) n) =
+              (let y : 16 * (c + c + c) + n ≡ 16 * c + 16 * c + 16 * c + n = omega arith in omega (arith, product-at rows (c + c + c) out i n, ap (offset (16 * rows)) y)) in
               rw (b, x) (quarter-last n (omega arith))
 
           level-value :
               (k : ℕ) → k < 16 * (2 * (c + c)) →
-              Same 65536 (reads w5 (out + 16 * i + place (16 * rows) k))
+              Same 65536 (reads w5 (out + 16 * i + offset (16 * rows) k))
               (split 16 (suc j) (operand rows (c + c) w0 a rows) (operand rows (c + c) w0 a i) k)
           unfolding L M H f g
           level-value k hk =
@@ -243,7 +243,7 @@ module _ (rows c q m a out free rest : ℕ) (eq : q ≡ 16 * (rows * c)) (em : m
 
         value-of :
             (j : ℕ) → c + c ≡ 2 ^ j → (i k : ℕ) → i < rows → k < 16 * (2 * (c + c)) →
-            Same 65536 (reads w5 (out + 16 * i + place (16 * rows) k)) (split 16 j (operand rows (c + c) w0 a rows) (operand rows (c + c) w0 a i) k)
+            Same 65536 (reads w5 (out + 16 * i + offset (16 * rows) k)) (split 16 j (operand rows (c + c) w0 a rows) (operand rows (c + c) w0 a i) k)
         value-of zero e i k hi hk = absurd (omega arith)
         value-of (suc j) e i k hi hk = level-value j (omega (arith, two-pow-succ j)) i hi k hk
 

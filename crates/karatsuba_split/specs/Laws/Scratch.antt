@@ -1,4 +1,4 @@
--- What `split` asks, for the halves; and for one line.
+-- What `split` requires: for the halves, and for one chunk.
 use Prim.Native.Nat.{ℕ, zero, suc, _+_, _*_, _^_, _<_, _≤_, _/_}
 use mathlib.Core.List.{List}
 use mathlib.Core.Logic.{inl, inr}
@@ -9,29 +9,29 @@ use lib.ListN.{length}
 use Rattle.algebra.specs.Integers.{Same}
 use Rattle.algebra.specs.Halves.{split}
 use Rattle.algebra.specs.Laws.Halves.{split-conv}
-use Rattle.karatsuba_base.specs.Layout.{reads, place, operand, Blank, Apart}
+use Rattle.karatsuba_base.specs.Layout.{reads, offset, operand, Blank, Apart}
 use Rattle.karatsuba_base.specs.Ensures.{Plain}
 use Rattle.karatsuba_base.specs.Requires.{PlainScratch}
 use Rattle.karatsuba_split.specs.Ensures.{Halved}
 use Rattle.karatsuba_split.specs.Requires.{SumScratch, JoinScratch, SplitScratch}
 use Rattle.karatsuba_split.specs.Laws.Level.{Fields}
 
--- half of more than one line
-pub record Half (lines c : ℕ) : Type 0 where
-  pub even : lines ≡ c + c
+-- half of more than one chunk
+pub record Half (chunks c : ℕ) : Type 0 where
+  pub even : chunks ≡ c + c
   pub depth : ℕ
   pub sized : c ≡ 2 ^ depth
 
-pub half : (lines depth : ℕ) → lines ≡ 2 ^ depth → (lines ≡ 1 → ⊥) → Half lines (lines / 2)
-half lines zero e n = absurd (n e)
-half lines (suc d) e n =
+pub half : (chunks depth : ℕ) → chunks ≡ 2 ^ depth → (chunks ≡ 1 → ⊥) → Half chunks (chunks / 2)
+half chunks zero e n = absurd (n e)
+half chunks (suc d) e n =
     let t = two-pow-succ d in
     record { even = omega (arith, t); depth = d; sized = omega (arith, t) }
 
-module _ {rows lines a out free : ℕ} {w : List ℕ} (r : SplitScratch rows lines a out free w) where
-  -- one line
-  module _ (e : lines ≡ 1) where
-    all : rows * lines ≡ rows
+module _ {rows chunks a out free : ℕ} {w : List ℕ} (r : SplitScratch rows chunks a out free w) where
+  -- one chunk
+  module _ (e : chunks ≡ 1) where
+    all : rows * chunks ≡ rows
     all = rw e (mul-one rows)
 
     pub plain-scratch : PlainScratch rows a out w
@@ -42,11 +42,11 @@ module _ {rows lines a out free : ℕ} {w : List ℕ} (r : SplitScratch rows lin
       blank = λ p h z. r .blank p (omega (arith, all)) z;
     }
       where
-        go : Apart a (24 * (rows * lines + lines)) out (32 * (rows * lines)) → Apart a (24 * (rows + 1)) out (32 * rows)
+        go : Apart a (24 * (rows * chunks + chunks)) out (32 * (rows * chunks)) → Apart a (24 * (rows + 1)) out (32 * rows)
         go (inl h) = inl (omega (arith, all))
         go (inr h) = inr (omega (arith, all))
 
-    pub plain-halved : {w′ : List ℕ} → Plain rows rows a out w w′ → Halved rows lines a out free w w′
+    pub plain-halved : {w′ : List ℕ} → Plain rows rows a out w w′ → Halved rows chunks a out free w w′
     plain-halved {w′} h = record {
       size = h .size;
       value = value-of;
@@ -55,14 +55,14 @@ module _ {rows lines a out free : ℕ} {w : List ℕ} (r : SplitScratch rows lin
     }
       where
         value-of :
-            (j : ℕ) → lines ≡ 2 ^ j → (i k : ℕ) → i < rows → k < 16 * (2 * lines) →
-            Same 65536 (reads w′ (out + 16 * i + place (16 * rows) k)) (split 16 j (operand rows lines w a rows) (operand rows lines w a i) k)
+            (j : ℕ) → chunks ≡ 2 ^ j → (i k : ℕ) → i < rows → k < 16 * (2 * chunks) →
+            Same 65536 (reads w′ (out + 16 * i + offset (16 * rows) k)) (split 16 j (operand rows chunks w a rows) (operand rows chunks w a i) k)
         value-of zero d i k hi hk = rw e (rw (split-conv 16 0 (operand rows 1 w a rows) (operand rows 1 w a i) k) (h .value i k hi (omega arith)))
         value-of (suc j) d i k hi hk = absurd (omega (arith, two-pow-succ j))
 
-  module _ {c : ℕ} (x : Half lines c) where
+  module _ {c : ℕ} (x : Half chunks c) where
     -- the places in terms of rows c
-    twice : rows * lines ≡ rows * c + rows * c
+    twice : rows * chunks ≡ rows * c + rows * c
     twice = rw (x .even) (mul-add rows c c)
 
     most : rows * c ≤ 4 * c
@@ -83,7 +83,7 @@ module _ {rows lines a out free : ℕ} {w : List ℕ} (r : SplitScratch rows lin
       lower = omega (arith, most);
     }
       where
-        go : Apart a (24 * (rows * lines + lines)) out (32 * (rows * lines)) →
+        go : Apart a (24 * (rows * chunks + chunks)) out (32 * (rows * chunks)) →
             Apart a (24 * (rows * c + c) + 24 * (rows * c + c)) out (16 * (rows * c) + 16 * (rows * c) + 16 * (rows * c) + 16 * (rows * c))
         go (inl h) = inl (omega (arith, twice, x .even))
         go (inr h) = inr (omega (arith, twice))
@@ -116,7 +116,7 @@ module _ {rows lines a out free : ℕ} {w : List ℕ} (r : SplitScratch rows lin
         blank = z;
       }
         where
-          go : Apart a (24 * (rows * lines + lines)) out (32 * (rows * lines)) →
+          go : Apart a (24 * (rows * chunks + chunks)) out (32 * (rows * chunks)) →
               Apart (a + 24 * (rows * c + c)) (24 * (rows * c + c)) (out + 16 * (rows * c) + 16 * (rows * c)) (32 * (rows * c))
           go (inl h) = inl (omega (arith, twice, x .even))
           go (inr h) = inr (omega (arith, twice))

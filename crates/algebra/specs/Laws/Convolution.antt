@@ -127,13 +127,13 @@ module _ (g R : ℕ → ℤ) (back : (j : ℕ) → R (8 + j) ≡ g j) where
       none-right (f i) _ (ap R e ∙ back (24 + t - i) ∙ zg (24 + t - i) (omega arith)))
 
   module _ (front : (i : ℕ) → i < 8 → R i ≡ pos 0) (f : ℕ → ℤ) where
-    -- f g at t by what stands in R
+    -- f g at t by what R holds
     abbrev term : ℕ → ℕ → ℤ
     term t i = f i *ℤ R (t + 8 - i)
 
-    in-row : (t : ℕ) → conv f g t ≡ sum (suc t) (term t)
+    in-padded : (t : ℕ) → conv f g t ≡ sum (suc t) (term t)
     unfolding conv
-    in-row t =
+    in-padded t =
         sum-cong (suc t) _ _ (λ i h.
         let e : t + 8 - i ≡ 8 + (t - i) = omega arith in
         ap (λ z. f i *ℤ z) (sym (ap R e ∙ back (t - i))))
@@ -145,14 +145,14 @@ module _ (g R : ℕ → ℤ) (back : (j : ℕ) → R (8 + j) ≡ g j) where
     unfolding window
     window-first t h =
         let e : 8 ≡ suc t + (7 - t) = omega arith in
-        in-row t ∙ sym (ap (λ (n : ℕ). sum n (term t)) e ∙ sum-past (suc t) (7 - t) (term t) (none-late t))
+        in-padded t ∙ sym (ap (λ (n : ℕ). sum n (term t)) e ∙ sum-past (suc t) (7 - t) (term t) (none-late t))
 
     pub window-both : Degree 16 f → (t : ℕ) → conv f g (8 + t) ≡ window f R (8 + t) +ℤ window (high 8 f) R t
     unfolding window
     window-both zf t =
         let u = term (8 + t) in
         let e : suc (8 + t) + 16 ≡ 16 + suc (8 + t) = omega arith in
-        in-row (8 + t)
+        in-padded (8 + t)
         ∙ sym (sum-past (suc (8 + t)) 16 u (none-late (8 + t)))
         ∙ ap (λ (n : ℕ). sum n u) e
         ∙ sum-past 16 (suc (8 + t)) u (λ i h. none-left _ (R (8 + t + 8 - i)) (zf i h))
