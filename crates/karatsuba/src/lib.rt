@@ -25,18 +25,18 @@ fn chunk(f: &[u16], s: usize) -> [u16; 24]
 }
 
 // Chunk g of each row and of b, at the place `at`.
-fn lay_chunk(rows: usize, a: &[u16], b: &[u16], g: usize, work: &mut [u16], at: usize)
+fn lay_chunk(rows: usize, a: &[u16], b: &[u16], g: usize, at: usize, work: &mut [u16])
     requires { ⌜ ChunkScratch rows (length (now a)) (length (now b)) g (at + 24 * (rows + 1)) (length (now work)) ⌝ }
     ensures { λ _. ⌜ LaidChunk (source rows (now (a .entry)) (now (b .entry))) g (rows + 1) at (now (work .entry)) (now (work .exit)) ⌝ }
 {
     let mut i = 0;
     while i < rows {
         let r = chunk(a, 256 * i + 16 * g);
-        put(&r, work, at + 24 * i);
+        put(&r, at + 24 * i, work);
         i += 1;
     }
     let r = chunk(b, 16 * g);
-    put(&r, work, at + 24 * rows);
+    put(&r, at + 24 * rows, work);
 }
 
 // The operands, from the front.
@@ -46,7 +46,7 @@ fn lay(rows: usize, a: &[u16], b: &[u16], work: &mut [u16])
 {
     let mut g = 0;
     while g < 16 {
-        lay_chunk(rows, a, b, g, work, 24 * ((rows + 1) * g));
+        lay_chunk(rows, a, b, g, 24 * ((rows + 1) * g), work);
         g += 1;
     }
 }
@@ -74,7 +74,7 @@ fn fold_row(work: &[u16], x: usize, s: usize, out: &mut [u16])
     while g < 16 {
         let p = x + s * g;
         let r = folded(work, p, p + 16 * s, out, 16 * g);
-        put(&r, out, 16 * g);
+        put(&r, 16 * g, out);
         g += 1;
     }
 }
@@ -101,7 +101,7 @@ pub fn rows_add(rows: usize, a: &[u16], b: &[u16], work: &mut [u16], out: &mut [
 {
     let x = 384 * (rows + 1);
     lay(rows, a, b, work);
-    karatsuba_split::split(rows, 16, work, 0, x, x + 512 * rows);
+    karatsuba_split::split(rows, 16, 0, x, x + 512 * rows, work);
     fold(rows, work, x, out);
 }
 

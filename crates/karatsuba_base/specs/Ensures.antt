@@ -15,13 +15,13 @@ pub record Put (at n : ℕ) (f : ℕ → ℕ) (w w′ : List ℕ) : Type 0 where
   pub below : (p : ℕ) → p < at → getD w′ p 0 ≡ getD w p 0
   pub above : (p : ℕ) → at + n ≤ p → getD w′ p 0 ≡ getD w p 0
 
--- eight coefficients p times the padded sixteen, in the first n of 24 places; the others hold 0
+-- eight coefficients p times the sixteen padded ones, in the first n of 24 places; the others hold 0
 pub record Lower (p padded : List ℕ) (n : ℕ) (r : List ℕ) : Type 0 where
   pub size : length r ≡ 32
   pub value : (t : ℕ) → t < n → Same 65536 (reads r t) (window (reads p) (reads padded) t)
   pub zero : (t : ℕ) → n ≤ t → getD r t 0 ≡ 0
 
--- the next eight times the padded sixteen added to it, in the first n of 24 places from the eighth on
+-- the next eight times the same sixteen, added to it, in the first n of 24 places from the eighth on
 pub record Upper (p padded low : List ℕ) (n : ℕ) (r : List ℕ) : Type 0 where
   pub size : length r ≡ 32
   pub first : (t : ℕ) → t < 8 → getD r t 0 ≡ getD low t 0

@@ -30,7 +30,7 @@ fn terms(p: &[u16], padded: &[u16], t: usize) -> u16
     s
 }
 
-// The product of eight coefficients and the padded sixteen.
+// The product of eight coefficients and the sixteen padded ones.
 fn lower(p: &[u16], padded: &[u16]) -> [u16; 32]
     requires { ⌜ TermsLengths (length (now p)) (length (now padded)) ⌝ }
     ensures { λ r. ⌜ Lower (now (p .entry)) (now (padded .entry)) 24 r ⌝ }
@@ -59,7 +59,7 @@ fn upper(p: &[u16], padded: &[u16], low: [u16; 32]) -> [u16; 32]
 }
 
 // r, at the place `at`.
-pub fn put(r: &[u16], work: &mut [u16], at: usize)
+pub fn put(r: &[u16], at: usize, work: &mut [u16])
     requires { ⌜ at + length (now r) ≤ length (now work) ⌝ }
     ensures { λ _. ⌜ Put at (length (now (r .entry))) (λ (k : ℕ). getD (now (r .entry)) k 0) (now (work .entry)) (now (work .exit)) ⌝ }
 {
@@ -85,7 +85,7 @@ fn sixteen(work: &[u16], b: usize) -> [u16; 16]
 }
 
 // The plain product of 16 coefficients, for one row.
-fn plain_one(work: &mut [u16], a: usize, out: usize)
+fn plain_one(a: usize, out: usize, work: &mut [u16])
     requires { ⌜ PlainScratch 1 a out (now work) ⌝ }
     ensures { λ _. ⌜ Plain 1 1 a out (now (work .entry)) (now (work .exit)) ⌝ }
 {
@@ -94,12 +94,12 @@ fn plain_one(work: &mut [u16], a: usize, out: usize)
     let end = a + 48;
     let low = lower(&work[b..mid], &work[a..b]);
     let r = upper(&work[mid..end], &work[a..b], low);
-    put(&r[0..16], work, out);
-    put(&r[16..32], work, out + 16);
+    put(&r[0..16], out, work);
+    put(&r[16..32], out + 16, work);
 }
 
 // The same for several rows, with b read once.
-fn plain_rows(rows: usize, work: &mut [u16], a: usize, out: usize)
+fn plain_rows(rows: usize, a: usize, out: usize, work: &mut [u16])
     requires { ⌜ PlainScratch rows a out (now work) ⌝ }
     ensures { λ _. ⌜ Plain rows rows a out (now (work .entry)) (now (work .exit)) ⌝ }
 {
@@ -111,20 +111,20 @@ fn plain_rows(rows: usize, work: &mut [u16], a: usize, out: usize)
         let low = lower(&b[0..8], &work[s..e]);
         let r = upper(&b[8..16], &work[s..e], low);
         let x = out + 16 * i;
-        put(&r[0..16], work, x);
-        put(&r[16..32], work, x + 16 * rows);
+        put(&r[0..16], x, work);
+        put(&r[16..32], x + 16 * rows, work);
         i += 1;
     }
 }
 
 // The plain product of 16 coefficients for each row.
-pub fn plain(rows: usize, work: &mut [u16], a: usize, out: usize)
+pub fn plain(rows: usize, a: usize, out: usize, work: &mut [u16])
     requires { ⌜ PlainScratch rows a out (now work) ⌝ }
     ensures { λ _. ⌜ Plain rows rows a out (now (work .entry)) (now (work .exit)) ⌝ }
 {
     if rows == 1 {
-        plain_one(work, a, out);
+        plain_one(a, out, work);
         return;
     }
-    plain_rows(rows, work, a, out);
+    plain_rows(rows, a, out, work);
 }

@@ -28,7 +28,7 @@ fn sum(work: &[u16], x: usize, y: usize) -> [u16; 24]
 }
 
 // The m places from x on and those from y on, added, at the place `at`.
-fn add(work: &mut [u16], x: usize, y: usize, at: usize, m: usize)
+fn add(x: usize, y: usize, at: usize, m: usize, work: &mut [u16])
     requires { ⌜ SumScratch x y at m (length (now work)) ⌝ }
     ensures { λ _. ⌜ Put at m (λ (k : ℕ). (getD (now (work .entry)) (x + k) 0 + getD (now (work .entry)) (y + k) 0) % 65536)
         (now (work .entry)) (now (work .exit)) ⌝ }
@@ -36,7 +36,7 @@ fn add(work: &mut [u16], x: usize, y: usize, at: usize, m: usize)
     let mut i = 0;
     while i < m {
         let r = sum(work, x + i, y + i);
-        put(&r, work, at + i);
+        put(&r, at + i, work);
         i += 24;
     }
 }
@@ -66,7 +66,7 @@ fn quarters(work: &[u16], out: usize, low: usize, q: usize) -> [u16; 48]
 }
 
 // Their join, at out.
-fn join(work: &mut [u16], out: usize, low: usize, q: usize)
+fn join(out: usize, low: usize, q: usize, work: &mut [u16])
     requires { ⌜ JoinScratch out low q (length (now work)) ⌝ }
     ensures { λ _. ⌜ Joined out low q q (now (work .entry)) (now (work .exit)) ⌝ }
 {
@@ -74,9 +74,9 @@ fn join(work: &mut [u16], out: usize, low: usize, q: usize)
     while n < q {
         let x = out + n;
         let r = quarters(work, x, low + n, q);
-        put(&r[0..16], work, x);
-        put(&r[16..32], work, x + q);
-        put(&r[32..48], work, x + q + q);
+        put(&r[0..16], x, work);
+        put(&r[16..32], x + q, work);
+        put(&r[32..48], x + q + q, work);
         n += 16;
     }
 }
@@ -84,21 +84,21 @@ fn join(work: &mut [u16], out: usize, low: usize, q: usize)
 // The product of b and each row, with no X^n = -1, for operands of `chunks` chunks, a power of two: by halves down to one chunk, with three
 // half products instead of four. The sums of the halves stand at `free`, their product and that of the upper halves at out, and then that of
 // the lower halves at `free`.
-pub fn split(rows: usize, chunks: usize, work: &mut [u16], a: usize, out: usize, free: usize)
+pub fn split(rows: usize, chunks: usize, a: usize, out: usize, free: usize, work: &mut [u16])
     requires { ⌜ SplitScratch rows chunks a out free (now work) ⌝ }
     ensures { λ _. ⌜ Halved rows chunks a out free (now (work .entry)) (now (work .exit)) ⌝ }
 {
     if chunks == 1 {
-        plain(rows, work, a, out);
+        plain(rows, a, out, work);
         return;
     }
     let half = chunks / 2;
     let q = 16 * (rows * half);
     let m = 24 * (rows * half + half);
     let rest = free + m + 8 * half;
-    add(work, a, a + m, free, m);
-    split(rows, half, work, a + m, out + q + q, rest);
-    split(rows, half, work, free, out, rest);
-    split(rows, half, work, a, free, rest);
-    join(work, out, free, q);
+    add(a, a + m, free, m, work);
+    split(rows, half, a + m, out + q + q, rest, work);
+    split(rows, half, free, out, rest, work);
+    split(rows, half, a, free, rest, work);
+    join(out, free, q, work);
 }

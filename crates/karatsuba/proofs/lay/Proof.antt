@@ -33,9 +33,9 @@ lay-spec =
     Inv-loop
     μ-loop
     (λ c. (omega arith, lay-none))
-    (λ c. omega (arith, c .before .before .before .before .before .before .pre .left))
-    (λ c. omega (arith, within (c .before)))
-    (λ c. omega (arith, within (c .before)))
+    (λ c. omega (arith, c .before .before .before .before .before .pre .left))
+    (λ c. omega (arith, within c))
+    (λ c. omega (arith, within c))
     (λ c κs.
     let p = c .before .before .before .before .before .before .pre in
     record { factors = p .factors; factor = p .factor; chunks = c .before .loop-test .taken; left = omega (arith, within (c .before)) })

@@ -10,10 +10,10 @@ use Rattle.karatsuba.proofs.lay_chunk.Statement.{statement}
 use Rattle.karatsuba.proofs.lay_chunk.Tie as tie
 
 abbrev Inv-loop : tie.InvT-loop
-Inv-loop rows a b g work₀ at i₀ work i = (i ≤ rows) × LaidChunk (source rows a b) g i at work₀ work
+Inv-loop rows a b g at work₀ i₀ work i = (i ≤ rows) × LaidChunk (source rows a b) g i at work₀ work
 
 abbrev μ-loop : tie.MeasureT-loop
-μ-loop rows a b g work₀ at i₀ work i = rows - i
+μ-loop rows a b g at work₀ i₀ work i = rows - i
 
 pub lay-chunk-spec : {M : Type 1} → statement M
 lay-chunk-spec =

@@ -15,8 +15,8 @@ rows-add-spec =
     (λ c κs.
     let p = c .before .before .before .before .before .pre in
     record { factors = p .factors; factor = p .factor; left = omega (arith, p .scratch) })
-    (λ c. omega (arith, c .before .before .before .before .before .before .before .before .before .pre .most))
-    (λ c. omega (arith, c .before .before .before .before .before .before .before .before .before .pre .most))
+    (λ c. omega (arith, c .before .before .before .before .before .before .before .before .pre .most))
+    (λ c. omega (arith, c .before .before .before .before .before .before .before .before .pre .most))
     (λ c κs.
     let l = c .before .before .before in
     let s = l .before .before .before .before .before .before in

@@ -12,10 +12,10 @@ use Rattle.karatsuba_base.proofs.plain_rows.Statement.{statement}
 use Rattle.karatsuba_base.proofs.plain_rows.Tie as tie
 
 abbrev Inv-loop : tie.InvT-loop
-Inv-loop rows work₀ a out b i₀ work i = (i ≤ rows) × Plain rows i a out work₀ work
+Inv-loop rows a out work₀ b i₀ work i = (i ≤ rows) × Plain rows i a out work₀ work
 
 abbrev μ-loop : tie.MeasureT-loop
-μ-loop rows work₀ a out b i₀ work i = rows - i
+μ-loop rows a out work₀ b i₀ work i = rows - i
 
 -- in a turn row i and its products stand in the slice
 within :

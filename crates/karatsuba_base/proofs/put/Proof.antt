@@ -9,10 +9,10 @@ use Rattle.karatsuba_base.proofs.put.Statement.{statement}
 use Rattle.karatsuba_base.proofs.put.Tie as tie
 
 abbrev Inv-loop : tie.InvT-loop
-Inv-loop r work₀ at k₀ work k = (k ≤ length r) × Put at k (λ (i : ℕ). getD r i 0) work₀ work
+Inv-loop r at work₀ k₀ work k = (k ≤ length r) × Put at k (λ (i : ℕ). getD r i 0) work₀ work
 
 abbrev μ-loop : tie.MeasureT-loop
-μ-loop r work₀ at k₀ work k = length r - k
+μ-loop r at work₀ k₀ work k = length r - k
 
 pub put-spec : {M : Type 1} → statement M
 put-spec =

@@ -51,21 +51,18 @@ pub +split-spec : {M : Type 1} → statement M
     (λ c. let r = c .before .before .pre .1 in omega (arith, r .most, scratch-left r (halved t c) refl))
     (λ c. let r = c .before .before .pre .1 in omega (arith, r .most, scratch-left r (halved t c) refl))
     (λ c. let r = c .before .before .pre .1 in omega (arith, r .most, scratch-left r (halved t c) refl))
-    (λ c.
-    let o = c .before in
-    let r = o .before .before .pre .1 in
-    omega (arith, scratch-left r (halved t o) refl, fields r (halved t o)))
+    (λ c. let r = c .before .before .pre .1 in omega (arith, scratch-left r (halved t c) refl, fields r (halved t c)))
     (λ c κs. sum-scratch (c .before .before .before .pre .1) (halved t (c .before)) refl)
     (λ c.
-    let o = c .before .before .before .before .before in
+    let o = c .before .before .before .before in
     let r = o .before .before .pre .1 in
     omega (arith, scratch-left r (halved t o) refl, fields r (halved t o)))
     (λ c.
-    let o = c .before .before .before .before .before in
+    let o = c .before .before .before .before in
     let r = o .before .before .pre .1 in
     omega (arith, scratch-left r (halved t o) refl, fields r (halved t o)))
     (λ c.
-    let o = c .before .before .before .before .before in
+    let o = c .before .before .before .before in
     let r = o .before .before .pre .1 in
     omega (arith, scratch-left r (halved t o) refl, fields r (halved t o)))
     (λ c κs.

@@ -11,11 +11,11 @@ use Rattle.karatsuba_split.proofs.add.Statement.{statement}
 use Rattle.karatsuba_split.proofs.add.Tie as tie
 
 abbrev Inv-loop : tie.InvT-loop
-Inv-loop work₀ x y at m i₀ work i =
+Inv-loop x y at m work₀ i₀ work i =
     ((i ≤ m) × (i % 24 ≡ 0)) × Put at i (λ (k : ℕ). (getD work₀ (x + k) 0 + getD work₀ (y + k) 0) % 65536) work₀ work
 
 abbrev μ-loop : tie.MeasureT-loop
-μ-loop work₀ x y at m i₀ work i = m - i
+μ-loop x y at m work₀ i₀ work i = m - i
 
 loop-again : tie.Need-loop-again Inv-loop μ-loop
 loop-again c =

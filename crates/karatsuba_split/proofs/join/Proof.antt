@@ -10,10 +10,10 @@ use Rattle.karatsuba_split.proofs.join.Statement.{statement}
 use Rattle.karatsuba_split.proofs.join.Tie as tie
 
 abbrev Inv-loop : tie.InvT-loop
-Inv-loop work₀ out low q n₀ work n = ((n ≤ q) × (n % 16 ≡ 0)) × Joined out low q n work₀ work
+Inv-loop out low q work₀ n₀ work n = ((n ≤ q) × (n % 16 ≡ 0)) × Joined out low q n work₀ work
 
 abbrev μ-loop : tie.MeasureT-loop
-μ-loop work₀ out low q n₀ work n = q - n
+μ-loop out low q work₀ n₀ work n = q - n
 
 -- in a turn sixteen places are left, and stand in the slice
 turn :
@@ -63,7 +63,7 @@ join-spec =
     (λ c. omega arith)
     (λ c. omega arith)
     (λ c. omega arith)
-    (λ c. omega (arith, turn (c .before .before .before .before .before .before .before .before .before .before .before)))
+    (λ c. omega (arith, turn (c .before .before .before .before .before .before .before .before .before .before)))
     (λ c κs.
     let u = c .before .before .before .before .before in
     simp (length-take, length-drop) (omega (arith, turn (u .before .before .before .before .before .before), u .put .ensures .size)))
@@ -71,10 +71,10 @@ join-spec =
     (λ c. omega arith)
     (λ c. omega arith)
     (λ c.
-    let l = c .before .before .before .before .before .before .before .before .before .before .before .before .before .before .before .before .before in
+    let l = c .before .before .before .before .before .before .before .before .before .before .before .before .before .before .before .before in
     omega (arith, turn l))
     (λ c.
-    let l = c .before .before .before .before .before .before .before .before .before .before .before .before .before .before .before .before .before in
+    let l = c .before .before .before .before .before .before .before .before .before .before .before .before .before .before .before .before in
     omega (arith, turn l))
     (λ c κs.
     let v = c .before .before .before .before .before in
