@@ -1,0 +1,5 @@
+pub mod Records
+pub mod Before
+pub mod Promises
+pub mod Ensures
+pub mod Laws

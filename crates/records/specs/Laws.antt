@@ -1,6 +1,0 @@
-pub mod Fields
-pub mod Doors
-pub mod Records
-pub mod Before
-pub mod Steps
-pub mod Calls

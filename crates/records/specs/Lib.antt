@@ -1,6 +1,0 @@
-pub mod Records
-pub mod Before
-pub mod Promises
-pub mod Requires
-pub mod Ensures
-pub mod Laws
