@@ -1,13 +1,13 @@
--- `saber::saber_public_key_offset` meets its contract: the calls give the definition's answer and row, and a row has few polynomials.
+-- `saber_numbers::public_key_offset` meets its contract: the calls give the definition's answer and parameters, and a set has few polynomials.
 use Prim.Native.Nat.{_*_}
 use mathlib.Core.Path.{ap}
 use native.Mathlib.Omega.{arith}
 use borrow.Author.Needs.{needs}
 use Rattle.sets.specs.declared.Params.{Params}
 use Rattle.sets.specs.Laws.Sets.{few-polynomials}
-use Rattle.saber.specs.Laws.Lookup.{found}
-use Rattle.saber.proofs.saber_public_key_offset.Statement.{statement}
-use Rattle.saber.proofs.saber_public_key_offset.Tie as tie
+use Rattle.saber_numbers.specs.Laws.Lookup.{found}
+use Rattle.saber_numbers.proofs.public_key_offset.Statement.{statement}
+use Rattle.saber_numbers.proofs.public_key_offset.Tie as tie
 
 returns : tie.Need-returns
 returns c =
@@ -16,8 +16,8 @@ returns c =
     found (a .set) (a .«secret-key») (416 * params .set-params .result .l) (c .before .before .lookup-answer .ensures) (c .or-zero .ensures)
     (ap (λ (p : Params). 416 * p .l) (params .set-params .ensures))
 
-pub saber-public-key-offset-spec : {M : Type 1} → statement M
-saber-public-key-offset-spec =
+pub public-key-offset-spec : {M : Type 1} → statement M
+public-key-offset-spec =
     tie.close
     (tie.spec
     (λ c κs. search needs)

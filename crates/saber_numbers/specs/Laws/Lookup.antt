@@ -6,7 +6,7 @@ use lib.ListN.{length, take, drop}
 use Rattle.questions.specs.Answers.{earliest, written}
 use Rattle.sets.specs.Sets.{paramsOf}
 use Rattle.keys.specs.Keys.{lookupQuestions, publicKeyOf}
-use Rattle.saber.specs.Lookup.{keyOffset, keyLength}
+use Rattle.saber_numbers.specs.Lookup.{keyOffset, keyLength}
 
 cut : (r a n : ℕ) (s : List ℕ) → take (written r n 0) (drop (written r a 0) s) ≡ written r (take n (drop a s)) []
 cut zero a n s = refl

@@ -1,10 +1,10 @@
--- `saber::saber_public_key_length` meets its contract: the calls give the definition's answer and row.
+-- `saber_numbers::public_key_length` meets its contract: the calls give the definition's answer and parameters.
 use mathlib.Core.Path.{ap}
 use borrow.Author.Needs.{needs}
 use Rattle.sets.specs.declared.Params.{Params}
-use Rattle.saber.specs.Laws.Lookup.{found}
-use Rattle.saber.proofs.saber_public_key_length.Statement.{statement}
-use Rattle.saber.proofs.saber_public_key_length.Tie as tie
+use Rattle.saber_numbers.specs.Laws.Lookup.{found}
+use Rattle.saber_numbers.proofs.public_key_length.Statement.{statement}
+use Rattle.saber_numbers.proofs.public_key_length.Tie as tie
 
 returns : tie.Need-returns
 returns c =
@@ -13,8 +13,8 @@ returns c =
     found (a .set) (a .«secret-key») (params .set-params .result .pk) (c .before .lookup-answer .ensures) (c .or-zero .ensures)
     (ap (λ (p : Params). p .pk) (params .set-params .ensures))
 
-pub saber-public-key-length-spec : {M : Type 1} → statement M
-saber-public-key-length-spec =
+pub public-key-length-spec : {M : Type 1} → statement M
+public-key-length-spec =
     tie.close
     (tie.spec
     (λ c κs. search needs)

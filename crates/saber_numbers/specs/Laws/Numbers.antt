@@ -4,15 +4,15 @@ use mathlib.Core.List.{List}
 use mathlib.Core.Option.{some}
 use mathlib.Core.Path.{_≡_, refl, _∙_}
 use Rattle.questions.specs.Laws.Answers.{refused}
-use Rattle.records.specs.declared.Door.{Door}
-use Rattle.records.specs.declared.Time.{Time}
-use Rattle.records.specs.declared.Head.{Head}
-use Rattle.records.specs.declared.Read.{Read}
-use Rattle.records.specs.Records.{doorNumber, timeNumber, headIn}
-use Rattle.records.specs.Promises.{Recorded, Retrieved}
-use Rattle.records.specs.Laws.Calls.{refusal-given}
-use Rattle.saber.specs.Numbers.{flagged, flagOf, orOld}
-use Rattle.saber.specs.Promises.{ReadInto}
+use Rattle.record_format.specs.declared.Door.{Door}
+use Rattle.record_format.specs.declared.Time.{Time}
+use Rattle.record_format.specs.declared.Head.{Head}
+use Rattle.record_format.specs.declared.Read.{Read}
+use Rattle.record_format.specs.Records.{doorNumber, timeNumber, headIn}
+use Rattle.record_format.specs.Promises.{Recorded, Retrieved}
+use Rattle.record_format.specs.Laws.Calls.{refusal-given}
+use Rattle.saber_numbers.specs.Numbers.{flagged, flagOf, orOld}
+use Rattle.saber_numbers.specs.Promises.{ReadInto}
 
 -- a flag that is not 0
 pub there : (flag x : ℕ) → (flag ≡ 0 → ⊥) → some x ≡ flagged flag x

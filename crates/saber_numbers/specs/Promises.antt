@@ -1,11 +1,11 @@
--- What reading a record promises a caller who lends a place for each number: r is the answer, a primed name what is there at exit.
+-- What reading a record promises a caller who lends a variable for each number: r is the answer, a primed name a value at exit.
 use Prim.Native.Nat.{ℕ}
 use mathlib.Core.List.{List}
 use mathlib.Core.Path.{_≡_}
 use lib.ListN.{length}
 use Rattle.questions.specs.Answers.{written}
-use Rattle.records.specs.Records.{doorNumber, timeNumber, headIn, ciphertextIn, readAnswer}
-use Rattle.saber.specs.Numbers.{flagOf, orOld}
+use Rattle.record_format.specs.Records.{doorNumber, timeNumber, headIn, ciphertextIn, readAnswer}
+use Rattle.saber_numbers.specs.Numbers.{flagOf, orOld}
 
 pub record ReadInto (s : List ℕ) (hasDoor door hasTime time set : ℕ) (ciphertext : List ℕ) (r : ℕ)
     (hasDoor' door' hasTime' time' set' : ℕ) (ciphertext' : List ℕ) : Type 0 where

@@ -1,0 +1,15 @@
+-- `saber_numbers::write_record` meets its contract: the call of the library, with the door and the time that are meant.
+use borrow.Author.Needs.{needs}
+use Rattle.saber_numbers.specs.Laws.Numbers.{recorded-as}
+use Rattle.saber_numbers.proofs.write_record.Statement.{statement}
+use Rattle.saber_numbers.proofs.write_record.Tie as tie
+
+pub write-record-spec : {M : Type 1} → statement M
+write-record-spec =
+    tie.close
+    (tie.spec
+    (λ c κs. search needs)
+    (λ c κs. search needs)
+    (λ c κs. search needs)
+    (λ c. search needs)
+    (λ c. search recorded-as))
