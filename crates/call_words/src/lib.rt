@@ -84,7 +84,7 @@ pub fn read_number(wanted: bool, most: usize, line: &[u8], from: Step) -> Step {
         };
     }
     let end = word_end(line, at);
-    let number = decimals::decimal_of(&line[at..end], most);
+    let number = decimals_read::decimal_of(&line[at..end], most);
     Step {
         value: number.value,
         next: end + 1,
@@ -185,7 +185,7 @@ pub fn read_signed(wanted: bool, line: &[u8], from: Step, list: &mut Signed) -> 
         };
     }
     let end = word_end(line, at);
-    let numbers = decimals::signed_of(&line[at..end], list);
+    let numbers = decimals_read::signed_of(&line[at..end], list);
     Step {
         value: numbers.value,
         next: end + 1,
@@ -276,5 +276,5 @@ pub fn bytes_into(list: &[u16], bytes: &mut Bytes) -> usize {
 // Writes signed numbers as a word, and says how long it is.
 pub fn signed_into(list: &[i8], text: &mut Text) -> usize {
     let n = least(list.len(), 32768);
-    decimals::signed_into(&list[0..n], text)
+    decimals_write::signed_into(&list[0..n], text)
 }

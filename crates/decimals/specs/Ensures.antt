@@ -1,4 +1,4 @@
--- What inner functions give.
+-- What inner functions ensure.
 use Prim.Native.Nat.{ℕ, _+_, _*_, _<_, _≤_}
 use mathlib.Core.List.{List, _++_}
 use mathlib.Core.Logic.{_⊎_}

@@ -1,5 +1,5 @@
--- Signed numbers of eight bits: a number made negative, the size of one, and its text. The machine holds z as bits, `ofZ w8 z`, and
--- reads them by `toZ w8`.
+-- Signed numbers of eight bits: a number made negative, the magnitude of one, and its text. The machine holds z as bits,
+-- `ofZ w8 z`, and reads them by `toZ w8`.
 use Prim.Native.Nat.{ℕ, zero, suc, _+_, _-_, _<_, _≤_}
 use mathlib.Core.Bool.{Bool, true, false, false≢true}
 use mathlib.Core.List.{_∷_}
@@ -36,22 +36,22 @@ module _ (n : ℕ) (some : n ≡ 0 → ⊥) (within : n ≤ 128) where
       let e : suc (n - 1) ≡ n = omega arith in
       rw (toZ-ofZ negated-fits, negated) (ap (λ (m : ℕ). negℤ (pos m)) e)
 
--- how the machine computes the magnitude of a negative number z: y is -1 - z
-pub record Sized (z y : ℤ) : Type 0 where
+-- the magnitude of a negative number z, as the machine computes it: y is -1 - z
+pub record Magnitude (z y : ℤ) : Type 0 where
   pub fits : SFits w8 y
   pub cast : T (nonNeg (held y)) × Fits w8 (natAbs (held y))
-  pub more : Fits w8 (natAbs (held y) + 1)
-  pub size : natAbs (held y) + 1 ≡ natAbs z
+  pub sumFits : Fits w8 (natAbs (held y) + 1)
+  pub magnitude : natAbs (held y) + 1 ≡ natAbs z
 
-sized : (n : ℕ) (y : ℤ) → n < 128 → y ≡ pos n → Sized (negsuc n) y
-sized n y h e =
+magnitude-is : (n : ℕ) (y : ℤ) → n < 128 → y ≡ pos n → Magnitude (negsuc n) y
+magnitude-is n y h e =
     let fits : SFits w8 (pos n) = record { sfits = omega arith } in
     let same : held y ≡ pos n = rw e (toZ-ofZ fits) in
     record {
       fits = rw e fits;
       cast = rw same (tt, record { fits = omega arith });
-      more = rw same (record { fits = omega arith });
-      size = rw same (omega arith);
+      sumFits = rw same (record { fits = omega arith });
+      magnitude = rw same (omega arith);
     }
 
 -- the sign of a number as the machine tests it
@@ -61,15 +61,15 @@ below-zero z = ltZ (held z) (pos 0)
 minus-less : (n : ℕ) → negsuc 0 -ℤ negsuc n ≡ pos n
 minus-less n = rw (le-ltb (suc n) 1 (omega arith)) (ap pos (omega arith))
 
-pub negative-size : (z : ℤ) → SFits w8 z → below-zero z ≡ true → Sized z (negsuc 0 -ℤ held z)
-negative-size (pos n) f h = absurd (omega (arith, ltb-true n 0 (rw (toZ-ofZ f) at h)))
-negative-size (negsuc n) f h = sized n _ (f .sfits) (rw (toZ-ofZ f) (minus-less n))
+pub negative-magnitude : (z : ℤ) → SFits w8 z → below-zero z ≡ true → Magnitude z (negsuc 0 -ℤ held z)
+negative-magnitude (pos n) f h = absurd (omega (arith, ltb-true n 0 (rw (toZ-ofZ f) at h)))
+negative-magnitude (negsuc n) f h = magnitude-is n _ (f .sfits) (rw (toZ-ofZ f) (minus-less n))
 
 pub plain-cast : (z : ℤ) → SFits w8 z → below-zero z ≡ false → T (nonNeg (held z)) × Fits w8 (natAbs (held z))
 plain-cast (pos n) f h = rw (toZ-ofZ f) (tt, record { fits = omega (arith, f .sfits) })
 plain-cast (negsuc n) f h = absurd (false≢true (sym (rw (toZ-ofZ f) at h)))
 
--- its text is that of its size m, behind a minus where it is negative
+-- its text is that of its magnitude m, behind a minus where it is negative
 module _ {m : ℕ} where
   pub negative-text : (z : ℤ) → SFits w8 z → m ≡ natAbs (held z) → below-zero z ≡ true → numberText z ≡ minus ∷ decimal m
   unfolding numberText

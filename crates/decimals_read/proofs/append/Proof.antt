@@ -1,10 +1,10 @@
--- `decimals::append` meets its contract: a number that does not grow would be too large.
+-- `decimals_read::append` meets its contract: a number that does not grow would be too large.
 use mathlib.Core.Logic.{inl, inr}
 use mathlib.Core.Path.{refl}
 use native.Mathlib.Omega.{arith}
 use borrow.Author.Needs.{needs}
-use Rattle.decimals.proofs.append.Statement.{statement}
-use Rattle.decimals.proofs.append.Tie as tie
+use Rattle.decimals_read.proofs.append.Statement.{statement}
+use Rattle.decimals_read.proofs.append.Tie as tie
 
 pub append-spec : {M : Type 1} → statement M
 append-spec =

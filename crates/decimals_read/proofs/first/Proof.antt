@@ -1,10 +1,10 @@
--- `decimals::first` meets its contract.
+-- `decimals_read::first` meets its contract.
 use mathlib.Core.Path.{sym}
 use native.Mathlib.Omega.{arith}
 use lib.ListN.{List·getD-eq-default}
 use borrow.Author.Needs.{needs}
-use Rattle.decimals.proofs.first.Statement.{statement}
-use Rattle.decimals.proofs.first.Tie as tie
+use Rattle.decimals_read.proofs.first.Statement.{statement}
+use Rattle.decimals_read.proofs.first.Tie as tie
 
 pub first-spec : {M : Type 1} → statement M
 first-spec =

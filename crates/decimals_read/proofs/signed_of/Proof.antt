@@ -1,5 +1,5 @@
--- `decimals::signed_of` meets its contract: what is read and the pieces that are left are the word's. Each piece that is read has a byte,
--- and a comma stands between two, so that they all have a place.
+-- `decimals_read::signed_of` meets its contract: what is read and the pieces that are left are the word's. Each piece that is read has a
+-- byte, and a comma stands between two, so that the list is long enough.
 use Prim.Native.Nat.{_*_, _-_, _<_, _≤_}
 use mathlib.Core.Bool.{false≢true}
 use mathlib.Core.List.{[], _∷_}
@@ -10,11 +10,11 @@ use borrow.Author.Needs.{needs}
 use mir.Facts.{toZ-ofZ}
 use mir.Syntax.{w8}
 use lib.ListN.{length, drop, length-set}
 use Rattle.decimals.specs.Signed.{minus, pieces}
 use Rattle.decimals.specs.Laws.Pieces.{Gathered, gathered-none, bad-piece, some-byte, next-piece, last-piece}
 use Rattle.decimals.specs.Laws.Pieces.{none-read, bad-read, all-read}
-use Rattle.decimals.proofs.signed_of.Statement.{statement}
-use Rattle.decimals.proofs.signed_of.Tie as tie
+use Rattle.decimals_read.proofs.signed_of.Statement.{statement}
+use Rattle.decimals_read.proofs.signed_of.Tie as tie
 
 abbrev Inv-loop : tie.InvT-loop
 Inv-loop word list₀ fault₀ count₀ at₀ list fault count at =
@@ -26,7 +26,7 @@ abbrev μ-loop : tie.MeasureT-loop
 some : (c : tie.Else1 Inv-loop μ-loop) → c .before .before .before .before .args .word .now ≡ minus ∷ [] → ⊥
 some c e = false≢true (sym (c .if1 .left) ∙ c .before .same .ensures .1 e)
 
--- a piece that is read has a byte, and so a place
+-- a piece that is read has a byte, so that the list has a place for its number
 module _ (c : tie.Else2 Inv-loop μ-loop) where
   on : c .before .before .before .before .before .loop .at < c .before .before .before .before .find .result
   on =

@@ -1,10 +1,10 @@
--- `decimals::decimal_of` meets its contract: what is read and what is left are the word.
+-- `decimals_read::decimal_of` meets its contract: what is read and what is left are the word.
 use Prim.Native.Nat.{_≤_, _-_}
 use borrow.Author.Needs.{needs}
 use lib.ListN.{length, drop}
 use Rattle.decimals.specs.Laws.Decimals.{Partly, partly-none, partly-more, partly-bad, partly-all, none-read, digit-below, digit-above}
-use Rattle.decimals.proofs.decimal_of.Statement.{statement}
-use Rattle.decimals.proofs.decimal_of.Tie as tie
+use Rattle.decimals_read.proofs.decimal_of.Statement.{statement}
+use Rattle.decimals_read.proofs.decimal_of.Tie as tie
 
 pub decimal-of-spec : {M : Type 1} → statement M
 decimal-of-spec =

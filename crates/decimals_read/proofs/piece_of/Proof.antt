@@ -1,4 +1,4 @@
--- `decimals::piece_of` meets its contract: the digits behind a minus, or all.
+-- `decimals_read::piece_of` meets its contract: the digits behind a minus, or all.
 use Prim.Native.Nat.{_≤_}
 use mathlib.Core.Path.{_∙_, sym}
 use native.Mathlib.Omega.{arith}
@@ -6,9 +6,9 @@ use borrow.Author.Needs.{needs}
 use lib.ListN.{length}
 use mir.Syntax.{w8}
 use mir.Facts.{toZ-ofZ, toZ-pos}
 use Rattle.decimals.specs.Laws.Pieces.{minus-some, negative-piece, plain-piece}
-use Rattle.decimals.proofs.piece_of.Statement.{statement}
-use Rattle.decimals.proofs.piece_of.Tie as tie
+use Rattle.decimals_read.proofs.piece_of.Statement.{statement}
+use Rattle.decimals_read.proofs.piece_of.Tie as tie
 
 some : (c : tie.Then1) → 1 ≤ length (c .before .before .before .args .piece .now)
 some c = minus-some (c .before .before .before .args .piece .now) (sym (c .before .first .ensures) ∙ c .if1 .taken)

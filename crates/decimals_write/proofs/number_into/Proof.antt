@@ -1,11 +1,11 @@
--- `decimals::number_into` meets its contract: a minus and the size, which has up to three digits, or the size alone.
+-- `decimals_write::number_into` meets its contract: a minus and the magnitude, which has up to three digits, or the magnitude alone.
 use native.Mathlib.Omega.{arith}
 use borrow.Author.Needs.{needs}
 use Rattle.decimals.specs.Laws.Decimals.{decimal-long}
 use Rattle.decimals.specs.Laws.Texts.{appended-as, appended-two}
 use Rattle.decimals.specs.Laws.Signs.{negative-text, plain-text}
-use Rattle.decimals.proofs.number_into.Statement.{statement}
-use Rattle.decimals.proofs.number_into.Tie as tie
+use Rattle.decimals_write.proofs.number_into.Statement.{statement}
+use Rattle.decimals_write.proofs.number_into.Tie as tie
 
 pub number-into-spec : {M : Type 1} → statement M
 number-into-spec =

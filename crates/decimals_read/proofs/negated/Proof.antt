@@ -1,10 +1,10 @@
--- `decimals::negated` meets its contract: -n is -1 less n - 1.
+-- `decimals_read::negated` meets its contract: -n is -1 less n - 1.
 use mathlib.Core.Path.{sym, ap}
 use borrow.Author.Needs.{needs}
 use lib.IntN.{pos, negℤ}
 use Rattle.decimals.specs.Laws.Signs.{negated-fits, negated-is}
-use Rattle.decimals.proofs.negated.Statement.{statement}
-use Rattle.decimals.proofs.negated.Tie as tie
+use Rattle.decimals_read.proofs.negated.Statement.{statement}
+use Rattle.decimals_read.proofs.negated.Tie as tie
 
 pub negated-spec : {M : Type 1} → statement M
 negated-spec =

@@ -1,11 +1,11 @@
--- `decimals::signed_into` meets its contract: what is written and the text of what is left are the list's.
+-- `decimals_write::signed_into` meets its contract: what is written and the text of what is left are the list's.
 use Prim.Native.Nat.{_-_, _≤_}
 use mathlib.Core.Path.{_≡_, refl, _∙_}
 use borrow.Author.Needs.{needs}
 use lib.ListN.{length}
 use Rattle.decimals.specs.Laws.Texts.{Written, written-none, written-first, written-more, written-all}
-use Rattle.decimals.proofs.signed_into.Statement.{statement}
-use Rattle.decimals.proofs.signed_into.Tie as tie
+use Rattle.decimals_write.proofs.signed_into.Statement.{statement}
+use Rattle.decimals_write.proofs.signed_into.Tie as tie
 
 pub signed-into-spec : {M : Type 1} → statement M
 signed-into-spec =

@@ -1,4 +1,4 @@
--- `decimals::decimal_into` meets its contract, by one argument over the number, which falls at each call.
+-- `decimals_write::decimal_into` meets its contract, by one argument over the number, which falls at each call.
 use Prim.Native.Nat.{ℕ, _<_}
 use mathlib.Core.Path.{ap}
 use native.Mathlib.Omega.{arith}
@@ -6,14 +6,14 @@ use borrow.Author.Needs.{needs}
 use borrow.Fn.Kinds.{In}
 use borrow.Fn.PlainCycle.{Measures, is, falls, and}
 use lib.ListN.{length}
 use Rattle.decimals.specs.Laws.Decimals.{one-digit, more-digits, one-more}
 use Rattle.decimals.specs.Laws.Texts.{appended-as, appended-two}
-use Rattle.decimals.proofs.decimal_into.Reads as decimal-into
-use Rattle.decimals.proofs.decimal_into.Kinds as decimal-into-kinds
-use Rattle.decimals.proofs.+decimal_into.Lts-decimal_into as decimal-into-lts
-use Rattle.decimals.proofs.put.Reads as put-reads
-use Rattle.decimals.proofs.+decimal_into.{statement}
-use Rattle.decimals.proofs.+decimal_into.Tie.{close}
+use Rattle.decimals_write.proofs.decimal_into.Reads as decimal-into
+use Rattle.decimals_write.proofs.decimal_into.Kinds as decimal-into-kinds
+use Rattle.decimals_write.proofs.+decimal_into.Lts-decimal_into as decimal-into-lts
+use Rattle.decimals_write.proofs.put.Reads as put-reads
+use Rattle.decimals_write.proofs.+decimal_into.{statement}
+use Rattle.decimals_write.proofs.+decimal_into.Tie.{close}
 
 abbrev μ-decimal-into : Measures 1 decimal-into-kinds.ps ℕ
 μ-decimal-into κs a = a .0
