@@ -1,4 +1,4 @@
--- Document 01, "Noise": the errors of rounding, the noise and its bounds, reckoned from a matrix A, given by row and column, and the secrets s
+-- Document 01, "Noise": the errors of rounding, the noise and its bounds, computed from a matrix A, given by row and column, and the secrets s
 -- and s′ as whole numbers, each of l polynomials of n coefficients.
 use Prim.Native.Nat.{ℕ, _+_, _*_, _/_, _%_, _<_, _≤_}
 use mathlib.Core.List.{List, map}
@@ -40,7 +40,7 @@ abbrev pub transposed : (ℕ → ℕ → List ℕ) → ℕ → ℕ → List ℕ
 transposed A i j = A j i
 
 module _ (n l : ℕ) (A : ℕ → ℕ → List ℕ) (s s′ : ℕ → List ℤ) where
-  -- b and e of making keys, b′ and e′ of encryption
+  -- b and e of keygen, b′ and e′ of encryption
   abbrev pub b : ℕ → List ℕ
   b = rounded n l (transposed A) s
 
@@ -72,7 +72,7 @@ bound margin = 8 * margin
 abbrev pub Within : ℕ → List ℤ → Type 0
 Within margin N = (k : ℕ) → k < length N → Lies (bound margin) (bound margin) (at N k)
 
--- what is asked of the step g, of M, which bounds the noise, and of what recovery adds: g is even and not 0, and both are 256 - g/2
+-- what the step g, M, which bounds the noise, and what recovery adds must meet: g is even and not 0, and both others are 256 - g/2
 pub record Fits (g margin added : ℕ) : Type 0 where
   pub some : 0 < g
   pub even : g % 2 ≡ 0
@@ -89,6 +89,6 @@ pub record Carries (n : ℕ) (v′ m w : List ℕ) : Type 0 where
 abbrev pub offset : ℕ → ℤ → ℕ → ℤ
 offset g N r = quotℤ N 8 +ℤ pos r -ℤ pos (g / 2)
 
--- the line between a bit that comes back and a miss: z modulo 1024, taken into -512 .. 511, lies in -256 .. 255
+-- the exact condition for a bit that comes back: z modulo 1024, taken into -512 .. 511, lies in -256 .. 255
 abbrev pub Near : ℤ → Type 0
 Near z = Lies 256 255 (around 1024 z)

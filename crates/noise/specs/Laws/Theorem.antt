@@ -1,4 +1,4 @@
--- Demand 3 over the definitions: the exact line for a miss, and the message that comes back whole where the noise is within its bounds.
+-- Demand 3 over the definitions: the exact condition for a miss, and the message that comes back whole where the noise is within its bounds.
 use Prim.Native.Nat.{ℕ, _%_, _<_, _≤_}
 use mathlib.Core.Bool.{true}
 use mathlib.Core.List.{List, map}
