@@ -1,4 +1,4 @@
--- Document 02, A5: what is reported of groups of seeds, under the set whose row in the table is p.
+-- Document 02, A5: what is reported of groups of seeds, under the set with the parameters p.
 use Prim.Native.Nat.{ℕ, _+_, _*_, _/_, _%_, min}
 use mathlib.Core.Bool.{cond}
 use mathlib.Core.List.{List, [], _∷_, map}
@@ -14,7 +14,7 @@ use Rattle.pke.specs.Pke.{decrypted}
 use Rattle.keys.specs.Keys.{plainSecret}
 use Rattle.kdf.specs.Kdf.{messageOf}
 use Rattle.noise.specs.Noise.{bound}
-use Rattle.margin_noise.specs.Norm.{largest}
+use Rattle.margin_noise.specs.Norm
 use Rattle.correctness.specs.Claim.{seedsNoise, seedsCiphertext}
 
 -- ---- one group
@@ -36,15 +36,15 @@ differing [] ys = 0
 differing (x ∷ xs) [] = 0
 
 module _ (p : Params) (group : List ℕ) where
-  -- "the largest size of a noise coefficient"
-  unfoldable pub size : ℕ
-  size = largest (seedsNoise p (matrixSeed group) (secretSeed group) (encapsSeed group))
+  -- "the largest size of a noise coefficient": the norm of the noise
+  unfoldable pub norm : ℕ
+  norm = Norm.norm (seedsNoise p (matrixSeed group) (secretSeed group) (encapsSeed group))
 
   -- "8 × M minus" it
   abbrev pub margin : ℤ
-  margin = pos (bound (p .margin)) -ℤ pos size
+  margin = pos (bound (p .margin)) -ℤ pos norm
 
-  -- what decryption gives, with the plain secret, of the ciphertext that the steps reckon from the seeds
+  -- what decryption gives, with the plain secret, of the ciphertext that the steps compute from the seeds
   unfoldable pub received : List ℕ
   received = decrypted p (plainSecret p (secretSeed group)) (seedsCiphertext p (matrixSeed group) (secretSeed group) (encapsSeed group))
 
@@ -65,7 +65,7 @@ groups bytes = from (cases bytes) (λ i. take 96 (drop (96 * i) bytes))
 abbrev pub rest : List ℕ → ℕ
 rest bytes = cond (ltb (cases bytes) 4096) (length bytes % 96) 0
 
--- the smaller of a number and another, if there is one, and the smallest of a list, which the empty one has not
+-- the smaller of a number and another, if there is one, and the smallest of a list, which an empty one does not have
 abbrev pub smaller : ℤ → Option ℤ → ℤ
 smaller x none = x
 smaller x (some y) = cond (ltZ y x) y x

@@ -15,13 +15,13 @@ pub record WrongScratch (p : Params) (pk sk secret ct : ℕ) : Type 0 where
   pub secretLong : secret ≡ 256 * p .l
   pub ctLong : ct ≡ p .ct
 
--- `size_of` and `size_with`: a public key
-pub record SizeLengths (p : Params) (pk : ℕ) : Type 0 where
+-- `norm_of` and `norm_with`: a public key
+pub record NormLengths (p : Params) (pk : ℕ) : Type 0 where
   pub isSet : IsSet p
   pub pkLong : pk ≡ p .pk
 
-pub record SizeScratch (p : Params) (pk matrix s t : ℕ) : Type 0 where
-  pub fits : SizeLengths p pk
+pub record NormScratch (p : Params) (pk matrix s t : ℕ) : Type 0 where
+  pub fits : NormLengths p pk
   pub matrixLong : matrix ≡ 416 * p .l * p .l
   pub sLong : s ≡ 256 * p .l
   pub tLong : t ≡ 256 * p .l

@@ -1,4 +1,4 @@
-// How near decryption comes to a miss: the message bits that decryption gives wrong, and the largest size of a coefficient of the noise.
+// How near decryption comes to a miss: the message bits that decryption gives wrong, and the norm of the noise.
 ghost use mathlib.Core.Bool.{cond};
 ghost use mathlib.Core.Path.{_≡_};
 ghost use Prim.Native.Nat.{_*_, _≤_};
@@ -10,9 +10,9 @@ ghost use Rattle.algebra.specs.Vectors.{entry};
 ghost use Rattle.sampling.specs.Sampling.{matrix, secret};
 ghost use Rattle.pke.specs.Pke.{encrypted, decrypted};
 ghost use Rattle.noise.specs.Noise.{noise};
-ghost use Rattle.margin_noise.specs.Norm.{largest};
+ghost use Rattle.margin_noise.specs.Norm.{norm};
 ghost use Rattle.margin_group.specs.Margin.{differing};
-ghost use Rattle.margin_group.specs.Requires.{WrongLengths, WrongScratch, SizeLengths, SizeScratch};
+ghost use Rattle.margin_group.specs.Requires.{WrongLengths, WrongScratch, NormLengths, NormScratch};
 use sets::Params;
 
 // 1 where two numbers differ.
@@ -48,7 +48,8 @@ fn wrong_bits(sent: &[u8], received: &[u8]) -> usize
     differing_of(&a, &b)
 }
 
-// Encrypts a message and decrypts it again: the bits that are wrong. The caller lends the places for the secret and the ciphertext.
+// Encrypts a message and decrypts it again: the bits that are wrong. The caller lends buffers for the secret and the
+// ciphertext.
 fn wrong_with(
     p: Params,
     public_key: &[u8],
@@ -70,7 +71,7 @@ fn wrong_with(
     wrong_bits(message, &received)
 }
 
-// The same, with places of its own.
+// The same, with buffers of its own.
 pub fn wrong_of(
     p: Params,
     public_key: &[u8],
@@ -98,9 +99,9 @@ pub fn wrong_of(
     )
 }
 
-// The largest size of a coefficient of the noise, from the stored matrix seed in a public key, the secret seed and the coins. The caller lends
-// the places for the packed matrix and both secrets.
-fn size_with(
+// The norm of the noise, from the stored matrix seed in a public key, the secret seed and the coins. The caller lends buffers for the packed
+// matrix and both secrets.
+fn norm_with(
     p: Params,
     public_key: &[u8],
     secret_seed: &[u8],
@@ -109,8 +110,8 @@ fn size_with(
     s: &mut [i8],
     t: &mut [i8],
 ) -> usize
-    requires { ⌜ SizeScratch p (length (now «public_key»)) (length (now matrix)) (length (now s)) (length (now t)) ⌝ }
-    ensures { λ r. ⌜ r ≡ largest (noise 256 (p .l)
+    requires { ⌜ NormScratch p (length (now «public_key»)) (length (now matrix)) (length (now s)) (length (now t)) ⌝ }
+    ensures { λ r. ⌜ r ≡ norm (noise 256 (p .l)
         (entry (p .l) (Rattle.sampling.specs.Sampling.matrix (p .l) (drop (320 * p .l) (now («public_key» .entry)))))
         (poly (secret (p .l) (p .mu) (now («secret_seed» .entry)))) (poly (secret (p .l) (p .mu) (now (coins .entry))))) ⌝ }
 {
@@ -119,13 +120,13 @@ fn size_with(
     sampling::packed_matrix_into(p.l, &public_key[e..key], matrix);
     sampling::secret_into(p.l, p.mu, secret_seed, s);
     sampling::secret_into(p.l, p.mu, coins, t);
-    margin_noise::noise_size(p.l, matrix, s, t)
+    margin_noise::noise_norm(p.l, matrix, s, t)
 }
 
-// The same, with places of its own.
-pub fn size_of(p: Params, public_key: &[u8], secret_seed: &[u8], coins: &[u8]) -> usize
-    requires { ⌜ SizeLengths p (length (now «public_key»)) ⌝ }
-    ensures { λ r. ⌜ r ≡ largest (noise 256 (p .l)
+// The same, with buffers of its own.
+pub fn norm_of(p: Params, public_key: &[u8], secret_seed: &[u8], coins: &[u8]) -> usize
+    requires { ⌜ NormLengths p (length (now «public_key»)) ⌝ }
+    ensures { λ r. ⌜ r ≡ norm (noise 256 (p .l)
         (entry (p .l) (matrix (p .l) (drop (320 * p .l) (now («public_key» .entry)))))
         (poly (secret (p .l) (p .mu) (now («secret_seed» .entry)))) (poly (secret (p .l) (p .mu) (now (coins .entry))))) ⌝ }
 {
@@ -134,7 +135,7 @@ pub fn size_of(p: Params, public_key: &[u8], secret_seed: &[u8], coins: &[u8]) -
     let mut t = [0i8; 1024];
     let m = 416 * p.l * p.l;
     let n = 256 * p.l;
-    size_with(
+    norm_with(
         p,
         public_key,
         secret_seed,

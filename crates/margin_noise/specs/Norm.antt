@@ -1,9 +1,9 @@
--- Document 02, A5: the largest size of a coefficient.
+-- Document 02, A5: "the largest size of a noise coefficient".
 use Prim.Native.Nat.{ℕ, max}
 use mathlib.Core.List.{List, [], _∷_}
 use lib.IntN.{ℤ, natAbs}
 
--- the largest of the sizes of whole numbers; a size has no sign
-unfoldable pub largest : List ℤ → ℕ
-largest [] = 0
-largest (z ∷ zs) = max (natAbs z) (largest zs)
+-- the norm of whole numbers: their largest magnitude
+unfoldable pub norm : List ℤ → ℕ
+norm [] = 0
+norm (z ∷ zs) = max (natAbs z) (norm zs)

@@ -21,11 +21,11 @@ pub record ProductInScratch (l A s t cut work : ℕ) (exact : List ℕ) : Type 0
   pub fits : ProductScratch l A s cut work exact
   pub tLong : t ≡ 256 * l
 
--- no coefficient is more than `most` in size
+-- no coefficient's magnitude is more than `most`
 abbrev pub Small : ℕ → List ℤ → Type 0
 Small most s = (k : ℕ) → natAbs (at s k) ≤ most
 
--- `noise_size`: a packed matrix and two secrets, whose coefficients are small and not too many for the sums
+-- `noise_norm`: a packed matrix and two secrets, whose coefficients are small and not too many for the sums
 pub record NoiseLengths (l A : ℕ) (s t : List ℤ) : Type 0 where
   pub few : l ≤ 4
   pub matrixLong : A ≡ 416 * (l * l)

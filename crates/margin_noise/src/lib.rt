@@ -1,7 +1,7 @@
-// The noise of a matrix and two secrets, measured: the largest size of its coefficients, exactly.
+// The norm of the noise of a matrix and two secrets, exactly.
 //
-// Errors lie in -3 .. 4 and secrets are small, so that every coefficient is less than 32768 in size (`Laws/Bounds`): its residue modulo 65536
-// says which number it is, and all sums are made modulo 65536.
+// Errors lie in -3 .. 4 and secrets are small, so that the magnitude of every coefficient is less than 32768 (`Laws/Bounds`): its residue modulo
+// 65536 says which number it is, and all sums are made modulo 65536.
 ghost use mathlib.Core.List.{map};
 ghost use mathlib.Core.Path.{_≡_};
 ghost use Prim.Native.Nat.{ℕ, max};
@@ -13,7 +13,7 @@ ghost use Rattle.algebra.specs.Ring.{inner, nat, poly, residues};
 ghost use Rattle.packing.specs.Packing.{unpacked};
 ghost use Rattle.algebra.specs.Vectors.{entry, side};
 ghost use Rattle.noise.specs.Noise.{around, error, errors, noise};
-ghost use Rattle.margin_noise.specs.Norm.{largest};
+ghost use Rattle.margin_noise.specs.Norm.{norm};
 ghost use Rattle.margin_noise.specs.Requires.{ProductWithScratch, ProductInScratch, NoiseLengths, NoiseScratch};
 use std::num;
 
@@ -24,7 +24,7 @@ fn error_of(x: u16) -> u16
     num::wrapping_sub_u16(4, num::wrapping_add_u16(x, 4) % 8)
 }
 
-// The errors of rounding, each in the place of its coefficient.
+// The errors of rounding, each at the place of its coefficient.
 fn errors_in(exact: &mut [u16])
     ensures { λ _. ⌜ now (exact .exit) ≡ map (λ (x : ℕ). modℤ (error (pos x)) 65536) (now (exact .entry)) ⌝ }
 {
@@ -36,7 +36,7 @@ fn errors_in(exact: &mut [u16])
 }
 
 // The errors of the product of the packed matrix, or of the transposed one, and the secret s, and their inner product with the secret t. The
-// caller lends the places for three polynomials and to work in, and zeros for the product and its errors.
+// caller lends buffers for three polynomials, scratch, and zeros for the product and its errors.
 fn product_in(
     transposed: bool,
     l: usize,
@@ -78,38 +78,38 @@ fn product_with(
     product_in(transposed, l, matrix, s, t, cut, work, &mut exact[0..n])
 }
 
-// The size of the number near zero whose residue is x - y.
-fn size_of(x: u16, y: u16) -> usize
+// The magnitude of the number near zero whose residue is x - y.
+fn magnitude(x: u16, y: u16) -> usize
     ensures { λ r. ⌜ r ≡ natAbs (around 65536 (pos x -ℤ pos y)) ⌝ }
 {
     let d = num::wrapping_sub_u16(x, y) as usize;
     if d < 32768 { d } else { 65536 - d }
 }
 
-// The larger of two sizes.
+// The larger of two numbers.
 pub fn larger(a: usize, b: usize) -> usize
     ensures { λ r. ⌜ r ≡ max a b ⌝ }
 {
     if a < b { b } else { a }
 }
 
-// The largest of the sizes of the numbers near zero whose residues are the differences of two lists.
-fn largest_of(left: &[u16; 256], right: &[u16; 256]) -> usize
-    ensures { λ r. ⌜ r ≡ largest (from 256 (λ (k : ℕ).
+// The norm of the numbers near zero whose residues are the differences of two lists.
+fn norm_of(left: &[u16; 256], right: &[u16; 256]) -> usize
+    ensures { λ r. ⌜ r ≡ norm (from 256 (λ (k : ℕ).
         around 65536 (pos (getD (now (left .entry)) k 0) -ℤ pos (getD (now (right .entry)) k 0)))) ⌝ }
 {
     let mut most = 0;
     let mut k = 0;
     while k < 256 {
-        let next = larger(most, size_of(left[k], right[k]));
+        let next = larger(most, magnitude(left[k], right[k]));
         most = next;
         k += 1;
     }
     most
 }
 
-// The largest size of a coefficient of N; the caller lends the places for the secrets modulo 65536, for three polynomials, and to work in.
-fn noise_size_with(
+// The norm of N. The caller lends buffers for the secrets modulo 65536 and for three polynomials, and scratch.
+fn noise_norm_with(
     l: usize,
     matrix: &[u8],
     s: &[i8],
@@ -121,26 +121,26 @@ fn noise_size_with(
 ) -> usize
     requires { ⌜ NoiseScratch l (length (now matrix)) (now s) (now t) (length (now «s_words»)) (length (now «t_words»)) (length (now cut))
         (length (now work)) ⌝ }
-    ensures { λ r. ⌜ r ≡ largest (noise 256 l (entry l (unpacked 13 (now (matrix .entry)))) (poly (now (s .entry))) (poly (now (t .entry)))) ⌝ }
+    ensures { λ r. ⌜ r ≡ norm (noise 256 l (entry l (unpacked 13 (now (matrix .entry)))) (poly (now (s .entry))) (poly (now (t .entry)))) ⌝ }
 {
     binomial::words_into(s, s_words);
     binomial::words_into(t, t_words);
     let left = product_with(false, l, matrix, t_words, s_words, cut, work);
     let right = product_with(true, l, matrix, s_words, t_words, cut, work);
-    largest_of(&left, &right)
+    norm_of(&left, &right)
 }
 
-// The same, with places of its own: s is the secret of making keys, t that of encryption.
-pub fn noise_size(l: usize, matrix: &[u8], s: &[i8], t: &[i8]) -> usize
+// The same, with buffers of its own: s is the secret of keygen, t that of encryption.
+pub fn noise_norm(l: usize, matrix: &[u8], s: &[i8], t: &[i8]) -> usize
     requires { ⌜ NoiseLengths l (length (now matrix)) (now s) (now t) ⌝ }
-    ensures { λ r. ⌜ r ≡ largest (noise 256 l (entry l (unpacked 13 (now (matrix .entry)))) (poly (now (s .entry))) (poly (now (t .entry)))) ⌝ }
+    ensures { λ r. ⌜ r ≡ norm (noise 256 l (entry l (unpacked 13 (now (matrix .entry)))) (poly (now (s .entry))) (poly (now (t .entry)))) ⌝ }
 {
     let mut s_words = [0u16; 1024];
     let mut t_words = [0u16; 1024];
     let mut cut = [0u16; 768];
     let mut work = [0u16; 4632];
     let n = 256 * l;
-    noise_size_with(
+    noise_norm_with(
         l,
         matrix,
         s,

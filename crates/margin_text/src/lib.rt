@@ -12,8 +12,8 @@ ghost use Rattle.decimals.specs.Ensures.{Appended};
 ghost use Rattle.margin_total.specs.Ensures.{leastOf};
 ghost use Rattle.margin_text.specs.Report.{leastText, line, isSet, figures, refusal, reportOf};
 ghost use Rattle.margin_text.specs.Requires.{LineLengths};
-use decimals::decimal_into;
-use decimals::put;
+use decimals_write::decimal_into;
+use decimals_write::put;
 use sets::Params;
 use sets::set_params;
 
@@ -56,15 +56,15 @@ fn difference_into(a: usize, b: usize, at: usize, text: &mut [u8]) -> usize
     decimal_into(a - b, at, text)
 }
 
-// The smallest margin of so many groups, by the largest size, and `none` of no group.
-fn least_into(p: Params, cases: usize, size: usize, at: usize, text: &mut [u8]) -> usize
-    requires { ⌜ at + length (leastText (leastOf p cases size)) ≤ length (now text) ⌝ }
-    ensures { λ r. ⌜ Appended (now (text .entry)) at (leastText (leastOf p cases size)) (now (text .exit)) r ⌝ }
+// The smallest margin of a number of groups, by their largest norm, and `none` of no group.
+fn least_into(p: Params, cases: usize, norm: usize, at: usize, text: &mut [u8]) -> usize
+    requires { ⌜ at + length (leastText (leastOf p cases norm)) ≤ length (now text) ⌝ }
+    ensures { λ r. ⌜ Appended (now (text .entry)) at (leastText (leastOf p cases norm)) (now (text .exit)) r ⌝ }
 {
     if cases == 0 {
         return text_into(b"none", at, text);
     }
-    difference_into(8 * (p.margin as usize), size, at, text)
+    difference_into(8 * (p.margin as usize), norm, at, text)
 }
 
 // The line of the figures.
@@ -72,23 +72,23 @@ fn line_into(
     set: u8,
     p: Params,
     cases: usize,
-    size: usize,
+    norm: usize,
     wrong: usize,
     rest: usize,
     at: usize,
     text: &mut [u8],
 ) -> usize
-    requires { ⌜ LineLengths (p .margin) cases size wrong rest at (length (now text)) ⌝ }
+    requires { ⌜ LineLengths (p .margin) cases norm wrong rest at (length (now text)) ⌝ }
     ensures { λ r. ⌜ Appended (now (text .entry)) at
-        (line (decimal set ∷ decimal cases ∷ leastText (leastOf p cases size) ∷ decimal wrong ∷ decimal rest ∷ [])) (now (text .exit)) r ⌝ }
+        (line (decimal set ∷ decimal cases ∷ leastText (leastOf p cases norm) ∷ decimal wrong ∷ decimal rest ∷ [])) (now (text .exit)) r ⌝ }
 {
     let a = words_into(set as usize, cases, b' ', at, text);
-    let b = least_into(p, cases, size, a, text);
+    let b = least_into(p, cases, norm, a, text);
     let c = put(b' ', b, text);
     words_into(wrong, rest, b'\n', c, text)
 }
 
-// The bytes left over of so many, none after 4096 groups.
+// The bytes left over of a number of them, none after 4096 groups.
 fn rest_of(cases: usize, bytes: usize) -> usize
     ensures { λ r. ⌜ (r ≡ cond (ltb cases 4096) (bytes % 96) 0) × (r < 96) ⌝ }
 {
@@ -101,10 +101,10 @@ fn figures_into(set: u8, bytes: &[u8], text: &mut [u8]) -> usize
     ensures { λ r. ⌜ Appended (now (text .entry)) 0 (figures set (now (bytes .entry))) (now (text .exit)) r ⌝ }
 {
     let p = set_params(set as u32);
-    let t = margin_total::tally_of(p, bytes);
+    let t = margin_total::totals_of(p, bytes);
     let rest = rest_of(t.cases, bytes.len());
     let at = text_into(b"set cases least wrong rest\n", 0, text);
-    line_into(set, p, t.cases, t.size, t.wrong, rest, at, text)
+    line_into(set, p, t.cases, t.norm, t.wrong, rest, at, text)
 }
 
 // The refusal, from the front.

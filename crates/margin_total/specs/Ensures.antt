@@ -8,24 +8,24 @@ use Rattle.sets.specs.declared.Params.{Params}
 use Rattle.noise.specs.Noise.{bound}
 use Rattle.margin_group.specs.Margin
 use Rattle.margin_total.specs.declared.Figures.{Figures}
-use Rattle.margin_total.specs.declared.Tally.{Tally}
+use Rattle.margin_total.specs.declared.Totals.{Totals}
 
 -- the figures of a group
 pub record Measured (p : Params) (group : List ℕ) (f : Figures) : Type 0 where
-  pub size : f .size ≡ Margin.size p group
+  pub norm : f .norm ≡ Margin.norm p group
   pub wrong : f .wrong ≡ Margin.wrongBits p group
-  pub sizeFits : f .size < 65536
+  pub normFits : f .norm < 65536
   pub wrongFew : f .wrong ≤ 256
 
--- the smallest margin of so many groups, by the largest size
+-- the smallest margin of a number of groups, by their largest norm
 abbrev pub leastOf : Params → ℕ → ℕ → Option ℤ
-leastOf p zero size = none
-leastOf p (suc n) size = some (pos (bound (p .margin)) -ℤ pos size)
+leastOf p zero norm = none
+leastOf p (suc n) norm = some (pos (bound (p .margin)) -ℤ pos norm)
 
 -- the figures of the groups of a string
-pub record Tallied (p : Params) (bytes : List ℕ) (t : Tally) : Type 0 where
+pub record Totalled (p : Params) (bytes : List ℕ) (t : Totals) : Type 0 where
   pub cases : t .cases ≡ Margin.cases bytes
-  pub least : leastOf p (t .cases) (t .size) ≡ Margin.least p bytes
+  pub least : leastOf p (t .cases) (t .norm) ≡ Margin.least p bytes
   pub wrong : t .wrong ≡ Margin.wrong p bytes
-  pub sizeFits : t .size < 65536
+  pub normFits : t .norm < 65536
   pub wrongFew : t .wrong ≤ 256 * t .cases

@@ -4,26 +4,26 @@ ghost use Prim.Native.Nat.{_/_, min};
 ghost use lib.ListN.{length};
 ghost use Rattle.sets.specs.Requires.{IsSet};
 ghost use Rattle.margin_total.specs.Requires.{GroupScratch};
-ghost use Rattle.margin_total.specs.Ensures.{Measured, Tallied};
-use margin_group::size_of;
+ghost use Rattle.margin_total.specs.Ensures.{Measured, Totalled};
+use margin_group::norm_of;
 use margin_group::wrong_of;
 use margin_noise::larger;
 use sets::Params;
 
-// What is found of a group: the largest size of a coefficient of its noise, and the message bits that decryption gives wrong.
+// What is found of a group: the norm of its noise, and the message bits that decryption gives wrong.
 pub struct Figures {
-    pub size: usize,
+    pub norm: usize,
     pub wrong: usize,
 }
 
-// What is found of many: how many they are, the largest size of all, and the wrong bits of all.
-pub struct Tally {
+// What is found of many: how many they are, the largest norm, and the wrong bits of all.
+pub struct Totals {
     pub cases: usize,
-    pub size: usize,
+    pub norm: usize,
     pub wrong: usize,
 }
 
-// The figures of a group of 96 bytes. z plays no part, and is zeros. The caller lends the places for the secret and the keys.
+// The figures of a group of 96 bytes. z plays no part, and is zeros. The caller lends buffers for the secret and the keys.
 fn figures_with(
     p: Params,
     group: &[u8],
@@ -47,12 +47,12 @@ fn figures_with(
     let message = sha3::hash256(&group[64..96]);
     let hash = sha3::hash256(public_key);
     let kr = kdf::key_and_coins(&message, &hash);
-    let size = size_of(p, public_key, &group[32..64], &kr[32..64]);
+    let norm = norm_of(p, public_key, &group[32..64], &kr[32..64]);
     let wrong = wrong_of(p, public_key, secret_key, &message, &kr[32..64]);
-    Figures { size, wrong }
+    Figures { norm, wrong }
 }
 
-// The same, with places of its own.
+// The same, with buffers of its own.
 fn figures_of(p: Params, group: &[u8]) -> Figures
     requires { ⌜ IsSet p × (length (now group) ≡ 96) ⌝ }
     ensures { λ r. ⌜ Measured p (now (group .entry)) r ⌝ }
@@ -72,7 +72,7 @@ fn figures_of(p: Params, group: &[u8]) -> Figures
     )
 }
 
-// The whole groups of so many bytes, no more than 4096.
+// The number of whole groups in a number of bytes, no more than 4096.
 fn cases_of(bytes: usize) -> usize
     ensures { λ r. ⌜ r ≡ min (bytes / 96) 4096 ⌝ }
 {
@@ -81,22 +81,22 @@ fn cases_of(bytes: usize) -> usize
 }
 
 // The figures of the groups of a string of bytes together.
-pub fn tally_of(p: Params, bytes: &[u8]) -> Tally
+pub fn totals_of(p: Params, bytes: &[u8]) -> Totals
     requires { ⌜ IsSet p ⌝ }
-    ensures { λ r. ⌜ Tallied p (now (bytes .entry)) r ⌝ }
+    ensures { λ r. ⌜ Totalled p (now (bytes .entry)) r ⌝ }
 {
     let cases = cases_of(bytes.len());
-    let mut size = 0;
+    let mut norm = 0;
     let mut wrong = 0;
     let mut i = 0;
     while i < cases {
         let at = 96 * i;
         let e = at + 96;
         let f = figures_of(p, &bytes[at..e]);
-        let next = larger(size, f.size);
-        size = next;
+        let next = larger(norm, f.norm);
+        norm = next;
         wrong += f.wrong;
         i += 1;
     }
-    Tally { cases, size, wrong }
+    Totals { cases, norm, wrong }
 }

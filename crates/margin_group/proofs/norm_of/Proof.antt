@@ -1,9 +1,9 @@
--- `margin_group::size_of` meets its contract: l is at most 4, so that the arrays have room.
+-- `margin_group::norm_of` meets its contract: l is at most 4, so that the arrays are long enough.
 use native.Mathlib.Nat.{mul-le-mul}
 use native.Mathlib.Omega.{arith}
 use borrow.Author.Needs.{needs}
-use Rattle.margin_group.proofs.size_of.Statement.{statement}
-use Rattle.margin_group.proofs.size_of.Tie as tie
+use Rattle.margin_group.proofs.norm_of.Statement.{statement}
+use Rattle.margin_group.proofs.norm_of.Tie as tie
 
 mul-m-2 : tie.Need-mul-m-2
 mul-m-2 c = let few = c .before .before .before .before .before .pre .isSet .few in omega (arith, mul-le-mul few few)
@@ -11,8 +11,8 @@ mul-m-2 c = let few = c .before .before .before .before .before .pre .isSet .few
 part-matrix-end : tie.Need-part-matrix-end
 part-matrix-end c = let few = c .before .before .before .before .before .before .pre .isSet .few in omega (arith, mul-le-mul few few)
 
-pub size-of-spec : {M : Type 1} → statement M
-size-of-spec =
+pub norm-of-spec : {M : Type 1} → statement M
+norm-of-spec =
     tie.close
     (tie.spec
     (λ c. search needs)

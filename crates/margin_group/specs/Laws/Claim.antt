@@ -20,30 +20,30 @@ use Rattle.noise.specs.Noise.{Lies, Within, bound}
 use Rattle.noise.specs.Laws.Errors.{sub-split, one-sign}
 use Rattle.correctness.specs.Claim.{NoiseWithin}
 use Rattle.correctness.specs.Laws.Steps.{returned}
-use Rattle.margin_noise.specs.Norm.{largest}
-use Rattle.margin_noise.specs.Laws.Bounds.{lies-size, largest-bound, no-larger}
-use Rattle.margin_group.specs.Margin.{matrixSeed, secretSeed, encapsSeed, differing, size, margin, received, wrongBits}
+use Rattle.margin_noise.specs.Norm
+use Rattle.margin_noise.specs.Laws.Bounds.{lies-magnitude, norm-bound, no-larger}
+use Rattle.margin_group.specs.Margin.{matrixSeed, secretSeed, encapsSeed, differing, norm, margin, received, wrongBits}
 use Rattle.margin_group.specs.Margin.{groups, smaller, smallest, total, least, wrong}
 
 lies : (b : ℕ) (z : ℤ) → natAbs z ≤ b → Lies b b z
 lies b (pos n) h = record { below = omega arith; above = h }
 lies b (negsuc n) h = record { below = h; above = omega arith }
 
--- the sizes are all within b exactly where the largest is
-within-largest : (margin : ℕ) (N : List ℤ) → (largest N ≤ bound margin) ↔ Within margin N
-within-largest margin N =
-    (λ h k hk. lies (bound margin) (at N k) (omega (arith, no-larger N k hk)), λ w. largest-bound (bound margin) N (λ k hk. lies-size (omega arith) (omega arith) (at N k) (w k hk)))
+-- the coefficients are all within the bounds exactly where the norm is
+within-norm : (margin : ℕ) (N : List ℤ) → (Norm.norm N ≤ bound margin) ↔ Within margin N
+within-norm margin N =
+    (λ h k hk. lies (bound margin) (at N k) (omega (arith, no-larger N k hk)), λ w. norm-bound (bound margin) N (λ k hk. lies-magnitude (omega arith) (omega arith) (at N k) (w k hk)))
 
 module _ (set : ℕ) (group : List ℕ) where
-  not-negative : (dn (margin (paramsOf set) group) ≡ 0) ↔ (size (paramsOf set) group ≤ bound (paramsOf set .margin))
+  not-negative : (dn (margin (paramsOf set) group) ≡ 0) ↔ (norm (paramsOf set) group ≤ bound (paramsOf set .margin))
   not-negative =
       let b = pos (bound (paramsOf set .margin)) in
-      let s = pos (size (paramsOf set) group) in
+      let s = pos (norm (paramsOf set) group) in
       (λ h. omega (arith, h, sub-split b s), λ h. omega (arith, h, sub-split b s, one-sign (margin (paramsOf set) group)))
 
   pub within : (dn (margin (paramsOf set) group) ≡ 0) ↔ NoiseWithin (paramsOf set) (matrixSeed group) (secretSeed group) (encapsSeed group)
-  unfolding size
-  within = (λ h. within-largest _ _ .0 (not-negative .0 h), λ w. not-negative .1 (within-largest _ _ .1 w))
+  unfolding norm
+  within = (λ h. within-norm _ _ .0 (not-negative .0 h), λ w. not-negative .1 (within-norm _ _ .1 w))
 
 same-none : (xs : List ℕ) → differing xs xs ≡ 0
 unfolding differing

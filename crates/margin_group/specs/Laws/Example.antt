@@ -6,13 +6,13 @@ use mathlib.Core.Path.{_≡_, refl}
 use lib.IntN.{pos, negsuc}
 use lib.ListN.{length}
 use Rattle.lists.specs.Lists.{from}
-use Rattle.margin_noise.specs.Norm.{largest}
+use Rattle.margin_noise.specs.Norm.{norm}
 use Rattle.margin_group.specs.Margin.{matrixSeed, secretSeed, encapsSeed, differing, groups, rest, smallest, total}
 
--- of -5, 3 and 4 the largest size is 5, and -5 the smallest number; none is the smallest of no numbers
-pub sizes : largest (negsuc 4 ∷ pos 3 ∷ pos 4 ∷ []) ≡ 5
-unfolding largest
-sizes = refl
+-- the norm of -5, 3 and 4 is 5, and -5 the smallest number; no numbers have no smallest
+pub norms : norm (negsuc 4 ∷ pos 3 ∷ pos 4 ∷ []) ≡ 5
+unfolding norm
+norms = refl
 
 pub smallests : (smallest (pos 3 ∷ negsuc 4 ∷ pos 4 ∷ []) ≡ some (negsuc 4)) × (smallest [] ≡ none)
 unfolding smallest

@@ -1,4 +1,4 @@
--- The two measures, by the steps that take them.
+-- The norm and the wrong bits, by the steps that compute them.
 use Prim.Native.Nat.{ℕ, _+_, _*_, _-_, _/_, _<_}
 use mathlib.Core.List.{List}
 use mathlib.Core.Path.{_≡_, ap, _∙_}
@@ -22,18 +22,18 @@ use Rattle.reconciliation.specs.Reconciliation.{recovered}
 use Rattle.reconciliation.specs.Laws.Reconciliation.{length-recovered}
 use Rattle.pke.specs.Pke.{encrypted, decrypted}
 use Rattle.noise.specs.Noise.{noise}
-use Rattle.margin_noise.specs.Norm.{largest}
+use Rattle.margin_noise.specs.Norm.{norm}
 use Rattle.margin_noise.specs.Requires.{Small, NoiseLengths}
 use Rattle.margin_group.specs.Margin.{differing, received}
 
 module _ (p : Params) (pk coins : List ℕ) where
-  pub size-steps :
+  pub norm-steps :
       (secretSeed : List ℕ) {A : List ℕ} {s t : List ℤ} {r : ℕ} → length pk ≡ p .pk →
       A ≡ matrix (p .l) (take (p .pk - 320 * p .l) (drop (320 * p .l) pk)) →
-      s ≡ secret (p .l) (p .mu) secretSeed → t ≡ secret (p .l) (p .mu) coins → r ≡ largest (noise 256 (p .l) (entry (p .l) A) (poly s) (poly t)) →
-      r ≡ largest (noise 256 (p .l) (entry (p .l) (matrix (p .l) (drop (320 * p .l) pk))) (poly (secret (p .l) (p .mu) secretSeed))
+      s ≡ secret (p .l) (p .mu) secretSeed → t ≡ secret (p .l) (p .mu) coins → r ≡ norm (noise 256 (p .l) (entry (p .l) A) (poly s) (poly t)) →
+      r ≡ norm (noise 256 (p .l) (entry (p .l) (matrix (p .l) (drop (320 * p .l) pk))) (poly (secret (p .l) (p .mu) secretSeed))
       (poly (secret (p .l) (p .mu) coins)))
-  size-steps secretSeed long ea es et e = rw (ea, es, et, last-part (320 * p .l) (p .pk) pk long) at e
+  norm-steps secretSeed long ea es et e = rw (ea, es, et, last-part (320 * p .l) (p .pk) pk long) at e
 
   pub wrong-steps :
       (m sk : List ℕ) {ct received : List ℕ} {r : ℕ} → ct ≡ encrypted p pk m coins →
@@ -42,7 +42,7 @@ module _ (p : Params) (pk coins : List ℕ) where
   wrong-steps m sk ec er e = rw (er, ec, first-part (416 * p .l) sk) at e
 
 module _ (p : Params) (isSet : IsSet p) where
-  -- the noise of secrets from seeds is less than 32768 in size
+  -- the norm of the noise of secrets from seeds is less than 32768
   pub few-sums : 2048 * (p .l * (p .mu / 2)) < 32768
   few-sums = let half : p .mu ≡ p .mu / 2 + p .mu / 2 = omega arith in omega (arith, isSet .seedFew, ap (λ (t : ℕ). p .l * t) half)
 
@@ -52,10 +52,10 @@ module _ (p : Params) (isSet : IsSet p) where
   pieces : Pieces (p .mu)
   pieces = record { least = isSet .muSome; most = isSet .muFew; even = isSet .muEven }
 
-  pub size-lengths :
+  pub norm-lengths :
       (secretSeed coins : List ℕ) {A : ℕ} {s t : List ℤ} → A ≡ 416 * p .l * p .l → s ≡ secret (p .l) (p .mu) secretSeed →
       t ≡ secret (p .l) (p .mu) coins → NoiseLengths (p .l) A s t
-  size-lengths secretSeed coins ea es et = record {
+  norm-lengths secretSeed coins ea es et = record {
     few = isSet .few;
     matrixLong = omega (arith, ea);
     sLong = ap length es ∙ length-secret (p .l) (p .mu) secretSeed pieces;

@@ -1,10 +1,10 @@
--- `margin_noise::noise_size` meets its contract: the places that it lends are long enough.
+-- `margin_noise::noise_norm` meets its contract: the buffers that it lends are long enough.
 use borrow.Author.Needs.{needs}
-use Rattle.margin_noise.proofs.noise_size.Statement.{statement}
-use Rattle.margin_noise.proofs.noise_size.Tie as tie
+use Rattle.margin_noise.proofs.noise_norm.Statement.{statement}
+use Rattle.margin_noise.proofs.noise_norm.Tie as tie
 
-pub noise-size-spec : {M : Type 1} → statement M
-noise-size-spec =
+pub noise-norm-spec : {M : Type 1} → statement M
+noise-norm-spec =
     tie.close
     (tie.spec
     (λ c. search needs)

@@ -1,10 +1,10 @@
--- `margin_noise::noise_size_with` meets its contract: the steps of the definition, one after another.
+-- `margin_noise::noise_norm_with` meets its contract: the steps of the definition, one after another.
 use mathlib.Core.Path.{_∙_}
 use native.Mathlib.Omega.{arith}
 use borrow.Author.Needs.{needs}
 use Rattle.margin_noise.specs.Laws.Exact.{noise-steps}
-use Rattle.margin_noise.proofs.noise_size_with.Statement.{statement}
-use Rattle.margin_noise.proofs.noise_size_with.Tie as tie
+use Rattle.margin_noise.proofs.noise_norm_with.Statement.{statement}
+use Rattle.margin_noise.proofs.noise_norm_with.Tie as tie
 
 abbrev first-of : tie.After-product-with2 → tie.After-product-with
 first-of c = c .before .before .before .before .before .before .before .before .before
@@ -43,10 +43,10 @@ returns c =
     let start = start-of making in
     let lengths = start .pre .fits in
     noise-steps _ (lengths .most) _ _ _ (lengths .sSmall) (lengths .tSmall) (lengths .sums) (making .words-into .ensures)
-    (encryption .words-into2 .ensures) (first .product-with .ensures) (second .product-with2 .ensures) (c .largest-of .ensures)
+    (encryption .words-into2 .ensures) (first .product-with .ensures) (second .product-with2 .ensures) (c .norm-of .ensures)
 
-pub noise-size-with-spec : {M : Type 1} → statement M
-noise-size-with-spec =
+pub noise-norm-with-spec : {M : Type 1} → statement M
+noise-norm-with-spec =
     tie.close
     (tie.spec
     (λ c κs. search needs)

@@ -1,4 +1,4 @@
--- `margin_noise::product_with` meets its contract: l is at most 4, so that the array has room for the product.
+-- `margin_noise::product_with` meets its contract: l is at most 4, so that the array is long enough for the product.
 use Prim.Native.Nat.{_*_}
 use native.Mathlib.Omega.{arith}
 use borrow.Author.Needs.{needs}

@@ -12,78 +12,78 @@ use Rattle.algebra.specs.Laws.Whole.{add-split, up-mul, dn-mul, up-neg, dn-neg}
 use Rattle.algebra.specs.Laws.Product.{at-inner}
 use Rattle.noise.specs.Noise.{Lies, transposed, e, e′}
 use Rattle.noise.specs.Laws.Errors.{errors-range, one-sign}
-use Rattle.margin_noise.specs.Norm.{largest}
+use Rattle.margin_noise.specs.Norm.{norm}
 use Rattle.margin_noise.specs.Requires.{Small}
 
--- a size is how far a number lies above zero or below it
-pub size-is : (z : ℤ) → natAbs z ≡ up z + dn z
-size-is (pos n) = omega arith
-size-is (negsuc n) = omega arith
+-- a magnitude is how far a number lies above zero or below it
+pub magnitude-is : (z : ℤ) → natAbs z ≡ up z + dn z
+magnitude-is (pos n) = omega arith
+magnitude-is (negsuc n) = omega arith
 
-add-size : (x y : ℤ) → natAbs (x +ℤ y) ≤ natAbs x + natAbs y
-add-size x y = omega (arith, size-is x, size-is y, size-is (x +ℤ y), one-sign (x +ℤ y), add-split x y)
+add-magnitude : (x y : ℤ) → natAbs (x +ℤ y) ≤ natAbs x + natAbs y
+add-magnitude x y = omega (arith, magnitude-is x, magnitude-is y, magnitude-is (x +ℤ y), one-sign (x +ℤ y), add-split x y)
 
-neg-size : (x : ℤ) → natAbs (negℤ x) ≡ natAbs x
-neg-size x = omega (arith, size-is x, size-is (negℤ x), up-neg x, dn-neg x)
+neg-magnitude : (x : ℤ) → natAbs (negℤ x) ≡ natAbs x
+neg-magnitude x = omega (arith, magnitude-is x, magnitude-is (negℤ x), up-neg x, dn-neg x)
 
-sub-size : (x y : ℤ) → natAbs (x -ℤ y) ≤ natAbs x + natAbs y
-sub-size x y = omega (arith, add-size x (negℤ y), neg-size y)
+sub-magnitude : (x y : ℤ) → natAbs (x -ℤ y) ≤ natAbs x + natAbs y
+sub-magnitude x y = omega (arith, add-magnitude x (negℤ y), neg-magnitude y)
 
-mul-size : (x y : ℤ) → natAbs (x *ℤ y) ≡ natAbs x * natAbs y
-mul-size x y = rw (size-is x, size-is y, size-is (x *ℤ y), up-mul x y, dn-mul x y) (omega arith)
+mul-magnitude : (x y : ℤ) → natAbs (x *ℤ y) ≡ natAbs x * natAbs y
+mul-magnitude x y = rw (magnitude-is x, magnitude-is y, magnitude-is (x *ℤ y), up-mul x y, dn-mul x y) (omega arith)
 
-sum-size : (m most : ℕ) (f : ℕ → ℤ) → ((i : ℕ) → natAbs (f i) ≤ most) → natAbs (sum m f) ≤ m * most
+sum-magnitude : (m most : ℕ) (f : ℕ → ℤ) → ((i : ℕ) → natAbs (f i) ≤ most) → natAbs (sum m f) ≤ m * most
 unfolding sum
-sum-size zero most f h = omega arith
-sum-size (suc m) most f h = omega (arith, add-size (sum m f) (f m), sum-size m most f h, h m)
+sum-magnitude zero most f h = omega arith
+sum-magnitude (suc m) most f h = omega (arith, add-magnitude (sum m f) (f m), sum-magnitude m most f h, h m)
 
 module _ (n most most′ : ℕ) where
-  coef-size : (a b : List ℤ) → Small most a → Small most′ b → (k : ℕ) → k < n → natAbs (coef n a b k) ≤ n * (most * most′)
+  coef-magnitude : (a b : List ℤ) → Small most a → Small most′ b → (k : ℕ) → k < n → natAbs (coef n a b k) ≤ n * (most * most′)
   unfolding coef
-  coef-size a b p q k h =
-      let product : (i j : ℕ) → natAbs (at a i *ℤ at b j) ≤ most * most′ = λ i j. rw (mul-size (at a i) (at b j)) (mul-le-mul (p i) (q j)) in
+  coef-magnitude a b p q k h =
+      let product : (i j : ℕ) → natAbs (at a i *ℤ at b j) ≤ most * most′ = λ i j. rw (mul-magnitude (at a i) (at b j)) (mul-le-mul (p i) (q j)) in
       let low : ℕ → ℤ = λ i. at a i *ℤ at b (k - i) in
       let high : ℕ → ℤ = λ i. at a (suc k + i) *ℤ at b (n - suc i) in
       let terms : n ≡ suc k + (n - suc k) = omega arith in
       omega (
         arith,
         ap (λ (t : ℕ). t * (most * most′)) terms ∙ add-mul (suc k) (n - suc k) (most * most′),
-        sub-size (sum (suc k) low) (sum (n - suc k) high),
-        sum-size (suc k) (most * most′) low (λ i. product i (k - i)),
-        sum-size (n - suc k) (most * most′) high (λ i. product (suc k + i) (n - suc i)),
+        sub-magnitude (sum (suc k) low) (sum (n - suc k) high),
+        sum-magnitude (suc k) (most * most′) low (λ i. product i (k - i)),
+        sum-magnitude (n - suc k) (most * most′) high (λ i. product (suc k + i) (n - suc i)),
       )
 
-  inner-size :
+  inner-magnitude :
       (l : ℕ) (a b : ℕ → List ℤ) → ((i : ℕ) → Small most (a i)) → ((i : ℕ) → Small most′ (b i)) → (k : ℕ) → k < n →
       natAbs (at (inner n l a b) k) ≤ l * (n * (most * most′))
-  inner-size l a b p q k h =
-      rw (at-inner n l a b k h) (sum-size l (n * (most * most′)) (λ i. coef n (a i) (b i) k) (λ i. coef-size (a i) (b i) (p i) (q i) k h))
+  inner-magnitude l a b p q k h =
+      rw (at-inner n l a b k h) (sum-magnitude l (n * (most * most′)) (λ i. coef n (a i) (b i) k) (λ i. coef-magnitude (a i) (b i) (p i) (q i) k h))
 
--- a number between two bounds; so errors are no more than 4 in size, and the noise is bounded by the secrets' coefficients
-pub lies-size : {low high most : ℕ} → low ≤ most → high ≤ most → (z : ℤ) → Lies low high z → natAbs z ≤ most
-lies-size p q (pos n) h = omega (arith, h .above)
-lies-size p q (negsuc n) h = omega (arith, h .below)
+-- a number between two bounds; so the magnitude of an error is at most 4, and the noise is bounded by the secrets' coefficients
+pub lies-magnitude : {low high most : ℕ} → low ≤ most → high ≤ most → (z : ℤ) → Lies low high z → natAbs z ≤ most
+lies-magnitude p q (pos n) h = omega (arith, h .above)
+lies-magnitude p q (negsuc n) h = omega (arith, h .below)
 
 pub noise-bound :
     (n l most : ℕ) (A : ℕ → ℕ → List ℕ) (s s′ : ℕ → List ℤ) → ((i : ℕ) → Small most (s i)) → ((i : ℕ) → Small most (s′ i)) →
     (k : ℕ) → k < n → natAbs (at (inner n l (e′ n l A s s′) s) k -ℤ at (inner n l (e n l A s s′) s′) k) ≤ 2 * (l * (n * (4 * most)))
 noise-bound n l most A s s′ p q k h =
-    let small : (z : ℤ) → Lies 3 4 z → natAbs z ≤ 4 = lies-size (omega arith) (omega arith) in
+    let small : (z : ℤ) → Lies 3 4 z → natAbs z ≤ 4 = lies-magnitude (omega arith) (omega arith) in
     omega (
       arith,
-      sub-size (at (inner n l (e′ n l A s s′) s) k) (at (inner n l (e n l A s s′) s′) k),
-      inner-size n 4 most l (e′ n l A s s′) s (λ i j. small _ (errors-range n l A s′ i j)) p k h,
-      inner-size n 4 most l (e n l A s s′) s′ (λ i j. small _ (errors-range n l (transposed A) s i j)) q k h,
+      sub-magnitude (at (inner n l (e′ n l A s s′) s) k) (at (inner n l (e n l A s s′) s′) k),
+      inner-magnitude n 4 most l (e′ n l A s s′) s (λ i j. small _ (errors-range n l A s′ i j)) p k h,
+      inner-magnitude n 4 most l (e n l A s s′) s′ (λ i j. small _ (errors-range n l (transposed A) s i j)) q k h,
     )
 
--- the largest of sizes that are bounded, and no size is larger than it
-pub largest-bound : (most : ℕ) (zs : List ℤ) → ((k : ℕ) → k < length zs → natAbs (at zs k) ≤ most) → largest zs ≤ most
-unfolding largest
-largest-bound most [] h = omega arith
-largest-bound most (z ∷ zs) h = omega (arith, h 0 (omega arith), largest-bound most zs (λ k hk. h (suc k) (omega arith)))
+-- the norm of bounded numbers, and no magnitude is larger than the norm
+pub norm-bound : (most : ℕ) (zs : List ℤ) → ((k : ℕ) → k < length zs → natAbs (at zs k) ≤ most) → norm zs ≤ most
+unfolding norm
+norm-bound most [] h = omega arith
+norm-bound most (z ∷ zs) h = omega (arith, h 0 (omega arith), norm-bound most zs (λ k hk. h (suc k) (omega arith)))
 
-pub no-larger : (zs : List ℤ) (k : ℕ) → k < length zs → natAbs (at zs k) ≤ largest zs
-unfolding largest
+pub no-larger : (zs : List ℤ) (k : ℕ) → k < length zs → natAbs (at zs k) ≤ norm zs
+unfolding norm
 no-larger [] k h = absurd (omega arith)
 no-larger (z ∷ zs) zero h = omega arith
 no-larger (z ∷ zs) (suc k) h = omega (arith, no-larger zs k (omega arith))

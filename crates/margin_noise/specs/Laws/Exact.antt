@@ -21,16 +21,16 @@ use Rattle.algebra.specs.Vectors.{entry, side, innerMod, matrixRow, matrixVecto
 use Rattle.algebra.specs.Laws.Matrices.{same-inner}
 use Rattle.noise.specs.Noise.{around, error, times, errors, e, e′, noise}
 use Rattle.noise.specs.Laws.Errors.{error-is, around-is}
-use Rattle.margin_noise.specs.Norm.{largest}
+use Rattle.margin_noise.specs.Norm.{norm}
 use Rattle.margin_noise.specs.Requires.{Small}
-use Rattle.margin_noise.specs.Laws.Bounds.{size-is, noise-bound, largest-bound}
+use Rattle.margin_noise.specs.Laws.Bounds.{magnitude-is, noise-bound, norm-bound}
 
 -- ---- errors
 -- what counts is the residue modulo 8192
 error-residue : (t : ℤ) → error (pos (modℤ t 8192)) ≡ error t
 error-residue t = rw (error-is t, error-is (pos (modℤ t 8192)), mod-eq-of-lt (mod-bound t 8192 (omega arith)))
 
--- as the code reckons it
+-- as the code computes it
 pub error-word : (x : ℕ) {y r : ℕ} → y ≡ (x + 4) % 65536 → r < 65536 → (r + y % 8) % 65536 ≡ 4 → r ≡ modℤ (error (pos x)) 65536
 error-word x {y} {r} e h q =
     let drops : (x % 8192 + 4) % 8 ≡ y % 8 = omega arith in
@@ -88,14 +88,14 @@ module _ (l : ℕ) (M : ℕ → ℕ → List ℕ) where
       ∙ ap (residues 65536) (inner-cong 256 l _ _ (poly t) (poly t) (λ i h. errors-secret s i) (λ i h. refl))
 
 -- ---- the noise
--- a number near zero by the difference of two residues, and its size as the code reckons it
+-- a number near zero by the difference of two residues, and its magnitude as the code computes it
 module _ (x y d : ℕ) (h : d < 65536) (e : (d + y) % 65536 ≡ x) where
-  pub size-plain : d < 32768 → d ≡ natAbs (around 65536 (pos x -ℤ pos y))
-  size-plain l =
+  pub magnitude-plain : d < 32768 → d ≡ natAbs (around 65536 (pos x -ℤ pos y))
+  magnitude-plain l =
       ap natAbs (sym (around-is 65536 (omega arith) (pos d) (pos x -ℤ pos y) (same-sym (same-minus x y e)) (omega arith) (omega arith)))
 
-  pub size-turned : 32768 ≤ d → 65536 - d ≡ natAbs (around 65536 (pos x -ℤ pos y))
-  size-turned l =
+  pub magnitude-turned : 32768 ≤ d → 65536 - d ≡ natAbs (around 65536 (pos x -ℤ pos y))
+  magnitude-turned l =
       let turned : Same 65536 (pos d) (negsuc (65535 - d)) = record { less = 0; more = 1; eq = omega arith } in
       let whole : 65536 - d ≡ suc (65535 - d) = omega arith in
       whole
@@ -122,9 +122,9 @@ module _ (l most : ℕ) (A : List ℕ) (s t : List ℤ) (ps : Small most s) (pt 
   bounded : (k : ℕ) → k < 256 → natAbs (N k) < 32768
   bounded k h = omega (arith, noise-bound 256 l most (entry l A) (poly s) (poly t) (small-poly most s ps) (small-poly most t pt) k h)
 
-  pub noise-fits : largest (noise 256 l (entry l A) (poly s) (poly t)) < 32768
+  pub noise-fits : norm (noise 256 l (entry l A) (poly s) (poly t)) < 32768
   unfolding noise
-  noise-fits = omega (arith, largest-bound 32767 (from 256 N) (λ k h. small k (omega (arith, length-from 256 N))))
+  noise-fits = omega (arith, norm-bound 32767 (from 256 N) (λ k h. small k (omega (arith, length-from 256 N))))
     where
       small : (k : ℕ) → k < 256 → natAbs (at (from 256 N) k) ≤ 32767
       small k h = rw (from-at 256 N (pos 0) k h) (omega (arith, bounded k h))
@@ -135,33 +135,33 @@ module _ (l most : ℕ) (A : List ℕ) (s t : List ℤ) (ps : Small most s) (pt 
   known k h {x} {y} p q =
       let residue : (z : ℤ) → Same 65536 (pos (modℤ z 65536)) z = λ z. same-sym (same-residue 65536 (omega arith) z) in
       around-is 65536 (omega arith) (N k) (pos x -ℤ pos y) (rw (p, q) (same-add (residue (at left k)) (same-neg (residue (at right k)))))
-      (omega (arith, size-is (N k), bounded k h)) (omega (arith, size-is (N k), bounded k h))
+      (omega (arith, magnitude-is (N k), bounded k h)) (omega (arith, magnitude-is (N k), bounded k h))
 
-  -- the steps that measure it
+  -- the steps that compute its norm
   pub noise-steps :
       {sw tw x y : List ℕ} {r : ℕ} → sw ≡ residues 65536 s → tw ≡ residues 65536 t →
       x ≡ residues 65536 (inner 256 l (errors 256 l (side false l A) (poly (nat tw))) (poly (nat sw))) →
       y ≡ residues 65536 (inner 256 l (errors 256 l (side true l A) (poly (nat sw))) (poly (nat tw))) →
-      r ≡ largest (from 256 (λ k. around 65536 (pos (getD x k 0) -ℤ pos (getD y k 0)))) →
-      r ≡ largest (noise 256 l (entry l A) (poly s) (poly t))
+      r ≡ norm (from 256 (λ k. around 65536 (pos (getD x k 0) -ℤ pos (getD y k 0)))) →
+      r ≡ norm (noise 256 l (entry l A) (poly s) (poly t))
   unfolding noise
   noise-steps {x = x} {y} es et p q r-is =
       let ex : x ≡ residues 65536 left = p ∙ rw (es, et) (product-secret l (side false l A) t s) in
       let ey : y ≡ residues 65536 right = q ∙ rw (es, et) (product-secret l (side true l A) s t) in
-      r-is ∙ ap largest (from-cong 256 _ _ (λ k h.
+      r-is ∙ ap norm (from-cong 256 _ _ (λ k h.
       known k h (ap (λ (r : List ℕ). getD r k 0) ex ∙ at-residues 65536 left k) (ap (λ (r : List ℕ). getD r k 0) ey ∙ at-residues 65536 right k)))
 
--- ---- the largest size, one a turn
-pub largest-none : (zs : List ℤ) → max 0 (largest (drop 0 zs)) ≡ largest zs
-largest-none zs = omega arith
+-- ---- the norm, one number a turn
+pub norm-none : (zs : List ℤ) → max 0 (norm (drop 0 zs)) ≡ norm zs
+norm-none zs = omega arith
 
-pub largest-more :
-    (zs : List ℤ) (k m : ℕ) {n : ℕ} → k < length zs → max m (largest (drop k zs)) ≡ largest zs → n ≡ max m (natAbs (at zs k)) →
-    max n (largest (drop (k + 1) zs)) ≡ largest zs
-unfolding largest
-largest-more zs k m h p q =
-    omega (arith, p, q, ap largest (drop-next zs k (pos 0) h))
+pub norm-more :
+    (zs : List ℤ) (k m : ℕ) {n : ℕ} → k < length zs → max m (norm (drop k zs)) ≡ norm zs → n ≡ max m (natAbs (at zs k)) →
+    max n (norm (drop (k + 1) zs)) ≡ norm zs
+unfolding norm
+norm-more zs k m h p q =
+    omega (arith, p, q, ap norm (drop-next zs k (pos 0) h))
 
-pub largest-all : (zs : List ℤ) (k m : ℕ) → length zs ≤ k → max m (largest (drop k zs)) ≡ largest zs → m ≡ largest zs
-unfolding largest
-largest-all zs k m h p = omega (arith, p, ap largest (drop-of-length-le zs h))
+pub norm-all : (zs : List ℤ) (k m : ℕ) → length zs ≤ k → max m (norm (drop k zs)) ≡ norm zs → m ≡ norm zs
+unfolding norm
+norm-all zs k m h p = omega (arith, p, ap norm (drop-of-length-le zs h))

@@ -22,11 +22,11 @@ unfolding ascii from
 line-into-requires c κs =
     let h = c .before .before .before in
     let r = h .before .before .before in
-    let t = r .before .tally-of .ensures in
+    let t = r .before .totals-of .ensures in
     record {
       marginFew = omega (arith, set-of (r .before .before) .sums .marginIs);
       casesFew = omega (arith, t .cases);
-      sizeFew = t .sizeFits;
+      normFew = t .normFits;
       wrongFew = omega (arith, t .wrongFew, t .cases);
       restFew = r .rest-of .ensures .1;
       fits = omega (arith, h .text-into .ensures .place);
@@ -38,7 +38,7 @@ returns c =
     let h = c .before .before .before .before .before .before in
     let r = h .before .before .before in
     let t = r .before in
-    figures-appended (t .before .before .before .before .args .set) (t .before .set-params .ensures) (t .tally-of .ensures)
+    figures-appended (t .before .before .before .before .args .set) (t .before .set-params .ensures) (t .totals-of .ensures)
     (r .rest-of .ensures .0) (h .text-into .ensures) (c .before .before .line-into .ensures)
 
 pub figures-into-spec : {M : Type 1} → statement M

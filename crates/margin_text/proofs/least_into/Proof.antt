@@ -1,4 +1,4 @@
--- `margin_text::least_into` meets its contract: `none`, or the difference of 8 × M and the size.
+-- `margin_text::least_into` meets its contract: `none`, or the difference of 8 × M and the norm.
 use mathlib.Core.Path.{ap}
 use native.Mathlib.Omega.{arith}
 use borrow.Author.Needs.{needs}
@@ -18,17 +18,17 @@ least-into-spec =
     (λ c. search needs)
     (λ c κs.
     let x = c .before .before .before .before .args in
-    omega (arith, ap length (none-text (x .p) (x .cases) (x .size) (c .before .before .if1 .taken))))
+    omega (arith, ap length (none-text (x .p) (x .cases) (x .norm) (c .before .before .if1 .taken))))
     (λ c. search needs)
     (λ c.
     let x = c .before .before .before .before .before .before .before .args in
-    appended-as (none-text (x .p) (x .cases) (x .size) (c .before .before .before .before .before .if1 .taken)) (c .before .before .text-into .ensures))
+    appended-as (none-text (x .p) (x .cases) (x .norm) (c .before .before .before .before .before .if1 .taken)) (c .before .before .text-into .ensures))
     (λ c. search needs)
     (λ c. search needs)
     (λ c κs.
     let x = c .before .before .before .before .args in
-    omega (arith, ap length (some-text (x .p) (x .cases) (x .size) (c .before .before .if1 .left))))
+    omega (arith, ap length (some-text (x .p) (x .cases) (x .norm) (c .before .before .if1 .left))))
     (λ c. search needs)
     (λ c.
     let x = c .before .before .before .before .before .before .before .args in
-    appended-as (some-text (x .p) (x .cases) (x .size) (c .before .before .before .before .before .if1 .left)) (c .before .before .difference-into .ensures)))
+    appended-as (some-text (x .p) (x .cases) (x .norm) (c .before .before .before .before .before .if1 .left)) (c .before .before .difference-into .ensures)))

@@ -11,7 +11,7 @@ use Rattle.margin_text.proofs.line_into.Tie as tie
 -- each word fits
 long :
     (s : tie.Start) →
-    let x = s .args in Lengths (x .set) (x .cases) (x .wrong) (x .rest) (leastText (leastOf (x .p) (x .cases) (x .size)))
+    let x = s .args in Lengths (x .set) (x .cases) (x .wrong) (x .rest) (leastText (leastOf (x .p) (x .cases) (x .norm)))
 long s = lengths (s .args .set) (s .args .p) (omega arith) (s .pre)
 
 pub line-into-spec : {M : Type 1} → statement M
@@ -47,5 +47,5 @@ line-into-spec =
     let b = d .before .before .before .before in
     let a = b .before .before .before .before in
     let x = a .before .before .before .args in
-    line-appended (decimal (x .set)) (decimal (x .cases)) (leastText (leastOf (x .p) (x .cases) (x .size))) (decimal (x .wrong))
+    line-appended (decimal (x .set)) (decimal (x .cases)) (leastText (leastOf (x .p) (x .cases) (x .norm))) (decimal (x .wrong))
     (decimal (x .rest)) (a .words-into .ensures) (b .least-into .ensures) (d .put .ensures) (e .words-into2 .ensures)))

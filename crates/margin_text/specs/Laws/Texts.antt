@@ -1,4 +1,4 @@
--- Laws of the report's texts: what is written one behind the other is the report, and it has room.
+-- Laws of the report's texts: what is written one behind the other is the report, and its words are short enough.
 use Prim.Native.Nat.{ℕ, zero, suc, _+_, _-_, _%_, _<_, _≤_}
 use mathlib.Core.Bool.{true, false, cond, false≢true}
 use mathlib.Core.List.{List, [], _∷_, _++_, append-assoc}
@@ -20,8 +20,8 @@ use Rattle.decimals.specs.Ensures.{Appended}
 use Rattle.decimals.specs.Laws.Decimals.{decimal-long}
 use Rattle.decimals.specs.Laws.Texts.{appended-as, appended-two}
 use Rattle.noise.specs.Noise.{bound}
-use Rattle.margin_total.specs.declared.Tally.{Tally}
-use Rattle.margin_total.specs.Ensures.{leastOf, Tallied}
+use Rattle.margin_total.specs.declared.Totals.{Totals}
+use Rattle.margin_total.specs.Ensures.{leastOf, Totalled}
 use Rattle.margin_text.specs.Requires.{LineLengths}
 use Rattle.margin_text.specs.Report.{ascii, leastText, line, isSet, figures, refusal, reportOf}
 
@@ -47,23 +47,23 @@ difference-long a b h k = go (decLt a b)
     go (yes l) = rw (negative-text a b l) (omega (arith, decimal-long 4 (b - a) (omega arith)))
     go (no l) = rw (plain-text a b (omega arith)) (omega (arith, decimal-long 4 (a - b) (omega arith)))
 
--- ---- the smallest margin of so many groups
+-- ---- the smallest margin of a number of groups
 
 module _ (p : Params) where
-  pub none-text : (cases size : ℕ) → cases ≡ 0 → leastText (leastOf p cases size) ≡ ascii "none"
+  pub none-text : (cases norm : ℕ) → cases ≡ 0 → leastText (leastOf p cases norm) ≡ ascii "none"
   unfolding leastText
-  none-text zero size h = refl
-  none-text (suc n) size h = absurd (omega arith)
+  none-text zero norm h = refl
+  none-text (suc n) norm h = absurd (omega arith)
 
-  pub some-text : (cases size : ℕ) → (cases ≡ 0 → ⊥) → leastText (leastOf p cases size) ≡ numberText (pos (bound (p .margin)) -ℤ pos size)
+  pub some-text : (cases norm : ℕ) → (cases ≡ 0 → ⊥) → leastText (leastOf p cases norm) ≡ numberText (pos (bound (p .margin)) -ℤ pos norm)
   unfolding leastText
-  some-text zero size h = absurd (h refl)
-  some-text (suc n) size h = refl
+  some-text zero norm h = absurd (h refl)
+  some-text (suc n) norm h = refl
 
-  least-long : (cases size : ℕ) → p .margin ≤ 256 → size < 65536 → length (leastText (leastOf p cases size)) ≤ 6
+  least-long : (cases norm : ℕ) → p .margin ≤ 256 → norm < 65536 → length (leastText (leastOf p cases norm)) ≤ 6
   unfolding leastText ascii from
-  least-long zero size h k = omega arith
-  least-long (suc n) size h k = difference-long (bound (p .margin)) size (omega arith) (omega arith)
+  least-long zero norm h k = omega arith
+  least-long (suc n) norm h k = difference-long (bound (p .margin)) norm (omega arith) (omega arith)
 
 -- ---- the line, word by word
 
@@ -82,13 +82,13 @@ pub record Lengths (set cases wrong rest : ℕ) (least : List ℕ) : Type 0 wher
   pub restLong : length (decimal rest) ≤ 2
 
 pub lengths :
-    {cases size wrong rest at long : ℕ} (set : ℕ) (p : Params) → set < 256 → LineLengths (p .margin) cases size wrong rest at long →
-    Lengths set cases wrong rest (leastText (leastOf p cases size))
-lengths {cases} {size} {wrong} {rest} set p h r =
+    {cases norm wrong rest at long : ℕ} (set : ℕ) (p : Params) → set < 256 → LineLengths (p .margin) cases norm wrong rest at long →
+    Lengths set cases wrong rest (leastText (leastOf p cases norm))
+lengths {cases} {norm} {wrong} {rest} set p h r =
     record {
       setLong = decimal-long 2 set (omega arith);
       casesLong = decimal-long 3 cases (omega (arith, r .casesFew));
-      leastLong = least-long p cases size (r .marginFew) (r .sizeFew);
+      leastLong = least-long p cases norm (r .marginFew) (r .normFew);
       wrongLong = decimal-long 6 wrong (r .wrongFew);
       restLong = decimal-long 1 rest (omega (arith, r .restFew));
     }
@@ -104,13 +104,13 @@ line-appended set cases least wrong rest p q r s =
 -- ---- the whole
 
 pub figures-appended :
-    {old mid new bytes : List ℕ} {r a e : ℕ} {p : Params} {t : Tally} (set : ℕ) → p ≡ paramsOf set → Tallied p bytes t →
+    {old mid new bytes : List ℕ} {r a e : ℕ} {p : Params} {t : Totals} (set : ℕ) → p ≡ paramsOf set → Totalled p bytes t →
     r ≡ cond (ltb (t .cases) 4096) (length bytes % 96) 0 → Appended old 0 (ascii "set cases least wrong rest\n") mid a →
     Appended mid a
-    (line (decimal set ∷ decimal (t .cases) ∷ leastText (leastOf p (t .cases) (t .size)) ∷ decimal (t .wrong) ∷ decimal r ∷ [])) new e →
+    (line (decimal set ∷ decimal (t .cases) ∷ leastText (leastOf p (t .cases) (t .norm)) ∷ decimal (t .wrong) ∷ decimal r ∷ [])) new e →
     Appended old 0 (figures set bytes) new e
 unfolding figures
-figures-appended set is f q head row = appended-as (rw (q, f .wrong, f .least, f .cases, is)) (appended-two head row)
+figures-appended set is f q head body = appended-as (rw (q, f .wrong, f .least, f .cases, is)) (appended-two head body)
 
 -- ---- by the first byte
 

@@ -12,8 +12,8 @@ keys-of c = c .before .before .before .before .before .before .before .before .b
 abbrev start-of : tie.After-keygen-with → tie.Start
 start-of c = c .before .before .before .before .before .before .before .before .before .before .before
 
-size-of-requires : tie.Need-size-of-requires
-size-of-requires c κs =
+norm-of-requires : tie.Need-norm-of-requires
+norm-of-requires c κs =
     let keys = keys-of (c .before .before .before .before) in
     let scratch = start-of keys .pre in
     record { isSet = scratch .isSet; pkLong = keys .keygen-with .kept .1 .1 .1 .1 .1 .0 ∙ scratch .pkLong }
@@ -30,12 +30,12 @@ wrong-of-requires c κs =
 
 returns : tie.Need-returns
 returns c =
-    let size = c .before .before .before .before .before .before in
-    let kr = size .before .before .before .before .before in
+    let norm = c .before .before .before .before .before .before in
+    let kr = norm .before .before .before .before .before in
     let hash = kr .before .before .before in
     let keys = keys-of kr in
     group-steps _ (start-of keys .pre .isSet) _ _ (keys .keygen-with .ensures) (hash .before .before .hash256 .ensures)
-    (hash .hash2562 .ensures) (kr .key-and-coins .ensures) (size .size-of .ensures) (c .wrong-of .ensures)
+    (hash .hash2562 .ensures) (kr .key-and-coins .ensures) (norm .norm-of .ensures) (c .wrong-of .ensures)
 
 pub figures-with-spec : {M : Type 1} → statement M
 figures-with-spec =
@@ -62,7 +62,7 @@ figures-with-spec =
     (λ c. search needs)
     (λ c. search needs)
     (λ c. search needs)
-    size-of-requires
+    norm-of-requires
     (λ c. search needs)
     (λ c. search needs)
     (λ c. search needs)

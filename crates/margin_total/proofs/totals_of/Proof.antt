@@ -1,18 +1,18 @@
--- `margin_total::tally_of` meets its contract: one group a turn.
+-- `margin_total::totals_of` meets its contract: one group a turn.
 use Prim.Native.Nat.{_-_}
 use mathlib.Core.Path.{_≡_}
 use native.Mathlib.Omega.{arith}
 use borrow.Author.Needs.{needs}
 use Rattle.margin_group.specs.Margin
 use Rattle.margin_total.specs.Laws.Groups.{Partly, partly-none, partly-more, partly-all}
-use Rattle.margin_total.proofs.tally_of.Statement.{statement}
-use Rattle.margin_total.proofs.tally_of.Tie as tie
+use Rattle.margin_total.proofs.totals_of.Statement.{statement}
+use Rattle.margin_total.proofs.totals_of.Tie as tie
 
 abbrev Inv-loop : tie.InvT-loop
-Inv-loop p bytes cases size₀ wrong₀ i₀ size wrong i = (cases ≡ Margin.cases bytes) × Partly p bytes i size wrong
+Inv-loop p bytes cases norm₀ wrong₀ i₀ norm wrong i = (cases ≡ Margin.cases bytes) × Partly p bytes i norm wrong
 
 abbrev μ-loop : tie.MeasureT-loop
-μ-loop p bytes cases size₀ wrong₀ i₀ size wrong i = cases - i
+μ-loop p bytes cases norm₀ wrong₀ i₀ norm wrong i = cases - i
 
 loop-holds : tie.Need-loop-holds Inv-loop μ-loop
 loop-holds c = (c .cases-of .ensures, partly-none _ _)
@@ -32,8 +32,8 @@ loop-again c =
 returns : tie.Need-returns Inv-loop μ-loop
 returns c = let loop = c .before .loop in partly-all _ _ (loop .inv .0) (omega arith) (loop .inv .1)
 
-pub tally-of-spec : {M : Type 1} → statement M
-tally-of-spec =
+pub totals-of-spec : {M : Type 1} → statement M
+totals-of-spec =
     tie.close
     (tie.spec
     Inv-loop

@@ -1,4 +1,4 @@
--- The figures of a group, by the steps that reckon them.
+-- The figures of a group, by the steps that compute them.
 use Prim.Native.Nat.{ℕ, _*_, _/_, _<_, _≤_}
 use mathlib.Core.Bool.{true}
 use mathlib.Core.List.{List, _++_}
@@ -27,9 +27,9 @@ use Rattle.kdf.specs.Laws.Kdf.{coins-part}
 use Rattle.kem.specs.Kem.{encapsCiphertext}
 use Rattle.noise.specs.Noise.{noise}
 use Rattle.correctness.specs.Claim.{seedsNoise}
-use Rattle.margin_noise.specs.Norm.{largest}
+use Rattle.margin_noise.specs.Norm
 use Rattle.margin_noise.specs.Laws.Exact.{noise-fits}
-use Rattle.margin_group.specs.Margin.{matrixSeed, secretSeed, encapsSeed, differing, size, received, wrongBits}
+use Rattle.margin_group.specs.Margin.{matrixSeed, secretSeed, encapsSeed, differing, norm, received, wrongBits}
 use Rattle.margin_group.specs.Laws.Counts.{differing-most}
 use Rattle.margin_group.specs.Laws.Measures.{few-sums}
 use Rattle.margin_total.specs.Ensures.{Measured}
@@ -43,9 +43,9 @@ module _ (p : Params) (isSet : IsSet p) where
       let b = roundedVector true (p .l) (shake128 a 32) key in
       rest-back 10 (p .l) (omega arith) b (length-vector true (p .l) (shake128 a 32) key) (shake128 a 32) (320 * p .l) (omega arith)
 
-  size-fits : (group : List ℕ) → size p group < 32768
-  unfolding size seedsNoise
-  size-fits group =
+  norm-fits : (group : List ℕ) → norm p group < 32768
+  unfolding norm seedsNoise
+  norm-fits group =
       noise-fits (p .l) (p .mu / 2) _ _ _ (secret-bound (p .l) (p .mu) _) (secret-bound (p .l) (p .mu) _) (few-sums p isSet)
 
   wrong-few : (group : List ℕ) → wrongBits p group ≤ 256
@@ -55,7 +55,7 @@ module _ (p : Params) (isSet : IsSet p) where
       let bits = recut-length 8 1 256 m (omega arith) (rw length-sponge (omega arith)) in
       omega (arith, differing-most (unpacked 1 m) (unpacked 1 (received p group)), bits)
 
-  -- the steps that measure a group
+  -- the steps that compute the figures of a group
   module _
       (group z : List ℕ) {pk sk : List ℕ} (keys : KeyPair p (matrixSeed group) (secretSeed group) z pk sk) {m hash kr : List ℕ}
       (em : m ≡ messageOf (encapsSeed group)) (eh : hash ≡ sha3-256 pk) (ek : kr ≡ sha3-512 (m ++ hash)) where
@@ -64,7 +64,7 @@ module _ (p : Params) (isSet : IsSet p) where
 
     abbrev found : ℕ
     found =
-        largest (noise 256 (p .l) (entry (p .l) (matrix (p .l) (drop (320 * p .l) pk)))
+        Norm.norm (noise 256 (p .l) (entry (p .l) (matrix (p .l) (drop (320 * p .l) pk)))
         (poly (secret (p .l) (p .mu) (secretSeed group))) (poly (secret (p .l) (p .mu) coins)))
 
     abbrev missed : ℕ
@@ -73,19 +73,19 @@ module _ (p : Params) (isSet : IsSet p) where
     coins-are : coins ≡ coinsOf (messageOf (encapsSeed group)) (sha3-256 (publicKey p (matrixSeed group) (secretSeed group)))
     coins-are = coins-part (m ++ hash) ek ∙ rw (ek, eh, em, keys .public)
 
-    size-is : found ≡ size p group
-    unfolding size seedsNoise
-    size-is = rw (coins-are, keys .public, stored-in (matrixSeed group) (secretSeed group))
+    norm-is : found ≡ norm p group
+    unfolding norm seedsNoise
+    norm-is = rw (coins-are, keys .public, stored-in (matrixSeed group) (secretSeed group))
 
     wrong-is : missed ≡ wrongBits p group
     unfolding wrongBits received encapsCiphertext
     wrong-is = rw (coins-are, em, keys .public, keys .secret, plain-in p isSet (matrixSeed group) (secretSeed group) z)
 
-    pub group-steps : {n w : ℕ} → n ≡ found → w ≡ missed → Measured p group (record { size = n; wrong = w })
+    pub group-steps : {n w : ℕ} → n ≡ found → w ≡ missed → Measured p group (record { norm = n; wrong = w })
     group-steps en ew =
         record {
-          size = en ∙ size-is;
+          norm = en ∙ norm-is;
           wrong = ew ∙ wrong-is;
-          sizeFits = omega (arith, en ∙ size-is, size-fits group);
+          normFits = omega (arith, en ∙ norm-is, norm-fits group);
           wrongFew = omega (arith, ew ∙ wrong-is, wrong-few group);
         }
