@@ -45,7 +45,7 @@ valueBehind v (b ∷ bs) = valueBehind (v * 10 + (b - digit 0)) bs
 abbrev pub value : List ℕ → ℕ
 value word = valueBehind 0 word
 
--- what is wrong with a word: 2, a bad digit, where it has not its form; else 4, too large, where a number is not small; else 0, nothing
+-- what is wrong with a word: 2, a bad digit, where it is not formed; else 4, too large, where a number is not small; else 0, nothing
 abbrev pub fault : Bool → Bool → ℕ
 fault formed small = cond formed (cond small 0 4) 2
 

@@ -48,8 +48,7 @@ fn wrong_bits(sent: &[u8], received: &[u8]) -> usize
     differing_of(&a, &b)
 }
 
-// Encrypts a message and decrypts it again: the bits that are wrong. The caller lends buffers for the secret and the
-// ciphertext.
+// Encrypts a message and decrypts it again: the bits that are wrong. The caller lends scratch for the secret and the ciphertext.
 fn wrong_with(
     p: Params,
     public_key: &[u8],
@@ -71,7 +70,7 @@ fn wrong_with(
     wrong_bits(message, &received)
 }
 
-// The same, with buffers of its own.
+// The same, with scratch of its own.
 pub fn wrong_of(
     p: Params,
     public_key: &[u8],
@@ -99,7 +98,7 @@ pub fn wrong_of(
     )
 }
 
-// The norm of the noise, from the stored matrix seed in a public key, the secret seed and the coins. The caller lends buffers for the packed
+// The norm of the noise, from the stored matrix seed in a public key, the secret seed and the coins. The caller lends scratch for the packed
 // matrix and both secrets.
 fn norm_with(
     p: Params,
@@ -123,7 +122,7 @@ fn norm_with(
     margin_noise::noise_norm(p.l, matrix, s, t)
 }
 
-// The same, with buffers of its own.
+// The same, with scratch of its own.
 pub fn norm_of(p: Params, public_key: &[u8], secret_seed: &[u8], coins: &[u8]) -> usize
     requires { ⌜ NormLengths p (length (now «public_key»)) ⌝ }
     ensures { λ r. ⌜ r ≡ norm (noise 256 (p .l)

@@ -1,7 +1,7 @@
 // The norm of the noise of a matrix and two secrets, exactly.
 //
-// Errors lie in -3 .. 4 and secrets are small, so that the magnitude of every coefficient is less than 32768 (`Laws/Bounds`): its residue modulo
-// 65536 says which number it is, and all sums are made modulo 65536.
+// Errors lie in -3 .. 4 and secrets are small, so that the magnitude of every coefficient is less than 32768 (`Laws/Bounds`): its residue
+// modulo 65536 says which number it is, and all sums are made modulo 65536.
 ghost use mathlib.Core.List.{map};
 ghost use mathlib.Core.Path.{_≡_};
 ghost use Prim.Native.Nat.{ℕ, max};
@@ -36,7 +36,7 @@ fn errors_in(exact: &mut [u16])
 }
 
 // The errors of the product of the packed matrix, or of the transposed one, and the secret s, and their inner product with the secret t. The
-// caller lends buffers for three polynomials, scratch, and zeros for the product and its errors.
+// caller lends scratch, and zeros for the product and its errors.
 fn product_in(
     transposed: bool,
     l: usize,
@@ -108,7 +108,7 @@ fn norm_of(left: &[u16; 256], right: &[u16; 256]) -> usize
     most
 }
 
-// The norm of N. The caller lends buffers for the secrets modulo 65536 and for three polynomials, and scratch.
+// The norm of N. The caller lends scratch, also for the secrets modulo 65536.
 fn noise_norm_with(
     l: usize,
     matrix: &[u8],
@@ -130,7 +130,7 @@ fn noise_norm_with(
     norm_of(&left, &right)
 }
 
-// The same, with buffers of its own: s is the secret of keygen, t that of encryption.
+// The same, with scratch of its own: s is the secret of keygen, t that of encryption.
 pub fn noise_norm(l: usize, matrix: &[u8], s: &[i8], t: &[i8]) -> usize
     requires { ⌜ NoiseLengths l (length (now matrix)) (now s) (now t) ⌝ }
     ensures { λ r. ⌜ r ≡ norm (noise 256 l (entry l (unpacked 13 (now (matrix .entry)))) (poly (now (s .entry))) (poly (now (t .entry)))) ⌝ }

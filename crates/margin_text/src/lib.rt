@@ -88,7 +88,7 @@ fn line_into(
     words_into(wrong, rest, b'\n', c, text)
 }
 
-// The bytes left over of a number of them, none after 4096 groups.
+// How many bytes are left over, 0 after 4096 groups.
 fn rest_of(cases: usize, bytes: usize) -> usize
     ensures { λ r. ⌜ (r ≡ cond (ltb cases 4096) (bytes % 96) 0) × (r < 96) ⌝ }
 {

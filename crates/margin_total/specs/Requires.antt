@@ -4,7 +4,7 @@ use mathlib.Core.Path.{_≡_}
 use Rattle.sets.specs.declared.Params.{Params}
 use Rattle.sets.specs.Requires.{IsSet}
 
--- `figures_with`: a group, and buffers for a secret and the keys
+-- `figures_with`: a group, and scratch for a secret and the keys
 pub record GroupScratch (p : Params) (group secret pk sk : ℕ) : Type 0 where
   pub isSet : IsSet p
   pub groupLong : group ≡ 96

@@ -23,7 +23,7 @@ pub struct Totals {
     pub wrong: usize,
 }
 
-// The figures of a group of 96 bytes. z plays no part, and is zeros. The caller lends buffers for the secret and the keys.
+// The figures of a group of 96 bytes. z plays no part, and is zeros. The caller lends scratch for the secret and the keys.
 fn figures_with(
     p: Params,
     group: &[u8],
@@ -52,7 +52,7 @@ fn figures_with(
     Figures { norm, wrong }
 }
 
-// The same, with buffers of its own.
+// The same, with scratch of its own.
 fn figures_of(p: Params, group: &[u8]) -> Figures
     requires { ⌜ IsSet p × (length (now group) ≡ 96) ⌝ }
     ensures { λ r. ⌜ Measured p (now (group .entry)) r ⌝ }
@@ -72,7 +72,7 @@ fn figures_of(p: Params, group: &[u8]) -> Figures
     )
 }
 
-// The number of whole groups in a number of bytes, no more than 4096.
+// How many whole groups a number of bytes has, at most 4096.
 fn cases_of(bytes: usize) -> usize
     ensures { λ r. ⌜ r ≡ min (bytes / 96) 4096 ⌝ }
 {

@@ -10,7 +10,7 @@ fn input_buffer() -> Input {
     [0; 393217]
 }
 
-// Reads a byte, and where it is a set's number what follows, until all places are full.
+// Reads a byte, and where it is a set's number what follows, until the buffer is full.
 fn fill(input: &mut [u8]) -> Got
     requires { ⌜ 0 < length (now input) ⌝ }
     ensures { λ r. ⌜ r .count ≤ length (now (input .exit)) ⌝ }

@@ -25,7 +25,7 @@ digit-above b h = rw (le-leb 48 b (omega arith), lt-leb b 57 h)
 
 -- ---- the digits of a number
 
--- how much more than the number the bound is plays no part
+-- every bound above the number gives the same digits
 same-digits : (f g n : ℕ) → n < f → n < g → digitsWithin f n ≡ digitsWithin g n
 unfolding digitsWithin
 same-digits zero g n h k = absurd (omega arith)

@@ -9,7 +9,7 @@ use Rattle.lists.specs.Lists.{from}
 use Rattle.margin_noise.specs.Norm.{norm}
 use Rattle.margin_group.specs.Margin.{matrixSeed, secretSeed, encapsSeed, differing, groups, rest, smallest, total}
 
--- the norm of -5, 3 and 4 is 5, and -5 the smallest number; no numbers have no smallest
+-- the norm of -5, 3 and 4 is 5; the smallest of them is -5, and an empty list has none
 pub norms : norm (negsuc 4 ∷ pos 3 ∷ pos 4 ∷ []) ≡ 5
 unfolding norm
 norms = refl
@@ -23,11 +23,12 @@ pub counts : (differing (1 ∷ 0 ∷ 1 ∷ 1 ∷ []) (1 ∷ 1 ∷ 1 ∷ 0 ∷ []
 unfolding differing total
 counts = (refl, refl)
 
--- of 200 bytes two groups and 8 bytes over; where the seeds of the second group begin
+-- 200 bytes are two groups and 8 bytes over
 pub cut : (length (groups (from 200 (λ i. i))) ≡ 2) × (rest (from 200 (λ i. i)) ≡ 8)
 unfolding groups from
 cut = (refl, refl)
 
+-- the three seeds of a group
 pub seeds :
     (matrixSeed (from 96 (λ i. i)) ≡ from 32 (λ i. i)) × (secretSeed (from 96 (λ i. i)) ≡ from 32 (λ i. 32 + i))
     × (encapsSeed (from 96 (λ i. i)) ≡ from 32 (λ i. 64 + i))

@@ -1,4 +1,4 @@
--- `margin_noise::noise_norm` meets its contract: the buffers that it lends are long enough.
+-- `margin_noise::noise_norm` meets its contract: the scratch that it lends is long enough.
 use borrow.Author.Needs.{needs}
 use Rattle.margin_noise.proofs.noise_norm.Statement.{statement}
 use Rattle.margin_noise.proofs.noise_norm.Tie as tie

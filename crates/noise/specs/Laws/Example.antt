@@ -32,7 +32,7 @@ abbrev s′ : ℕ → List ℤ
 s′ zero = four (neg 1) (pos 2) (neg 4) (pos 5)
 s′ (suc i) = four (pos 0) (pos 0) (neg 5) (neg 2)
 
--- N, and with e of making keys and e′ of encryption what the definitions compute
+-- N, and with e of keygen and e′ of encryption what the definitions compute
 abbrev N : List ℤ
 N = four (pos 24) (neg 24) (neg 16) (pos 8)
 
