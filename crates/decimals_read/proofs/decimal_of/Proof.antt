@@ -21,6 +21,7 @@ decimal-of-spec =
     (λ c. search needs)
     (λ c. search needs)
     (λ c.
-    let l = c .before .before .before .before .before .loop in
+    let tested = c .before in
+    let l = tested .before .before .before .before .loop in
     (search needs, partly-more (l .i) (search needs) (search needs) (search needs) (l .inv .1) (c .append .ensures)))
     (λ c. let l = c .before .loop in partly-all (l .i) (search needs) (search needs) (l .inv .1)))

@@ -26,15 +26,20 @@ abbrev μ-loop : tie.MeasureT-loop
 some : (c : tie.Else1 Inv-loop μ-loop) → c .before .before .before .before .args .word .now ≡ minus ∷ [] → ⊥
 some c e = false≢true (sym (c .if1 .left) ∙ c .before .same .ensures .1 e)
 
+-- where the end of a piece was found, from where the piece was read
+abbrev found : tie.Else2 Inv-loop μ-loop → tie.After-find Inv-loop μ-loop
+found c = c .before .before .before .before
+
+abbrev turn : tie.Else2 Inv-loop μ-loop → tie.At-loop Inv-loop μ-loop
+turn c = found c .before
+
 -- a piece that is read has a byte, so that the list has a place for its number
 module _ (c : tie.Else2 Inv-loop μ-loop) where
-  on : c .before .before .before .before .before .loop .at < c .before .before .before .before .find .result
+  on : turn c .loop .at < found c .find .result
   on =
-      let l = c .before .before .before .before .before .loop in
-      let found = c .before .before .before .before .find .ensures .0 in
-      some-byte _ (l .at) found (l .inv .1 .1 .1) (c .before .before .piece-of .ensures) (c .if2 .left)
+      some-byte _ (turn c .loop .at) (found c .find .ensures .0) (turn c .loop .inv .1 .1 .1) (c .before .before .piece-of .ensures) (c .if2 .left)
 
-  fits : c .before .before .before .before .before .loop .count < length (c .before .before .before .before .before .loop .list)
+  fits : turn c .loop .count < length (turn c .loop .list)
   fits = omega (arith, on)
 
 pub signed-of-spec : {M : Type 1} → statement M
@@ -54,34 +59,32 @@ signed-of-spec =
     (λ c κs. search needs)
     (λ c. search needs)
     (λ c.
-    let l = c .before .before .before .before .before .loop in
-    let found = c .before .before .before .before .find .ensures .0 in
-    bad-read (some (c .before .before .before .before .before .before))
-    (bad-piece _ (l .at) found (l .inv .1 .1 .1) (c .before .before .piece-of .ensures) (c .if2 .taken)))
+    let end = c .before .before .before .before in
+    let l = end .before .loop in
+    bad-read (some (end .before .before))
+    (bad-piece _ (l .at) (end .find .ensures .0) (l .inv .1 .1 .1) (c .before .before .piece-of .ensures) (c .if2 .taken)))
     (λ c. fits (c .before))
     (λ c. search needs)
     (λ c. search needs)
     (λ c.
     let p = c .before .before .before .before in
-    let l = p .before .before .before .before .before .loop in
-    let found = p .before .before .before .before .find .ensures .0 in
+    let l = turn p .loop in
     let same = toZ-ofZ {w = w8} (record { sfits = c .before .before .before .struct-told .given .0 .1 }) in
-    all-read (some (p .before .before .before .before .before .before))
-    (last-piece _ (l .at) found (l .inv .1 .1 .1) (p .before .before .piece-of .ensures) (p .if2 .left) (fits p) same
+    all-read (some (turn p .before))
+    (last-piece _ (l .at) (found p .find .ensures .0) (l .inv .1 .1 .1) (p .before .before .piece-of .ensures) (p .if2 .left) (fits p) same
     (⊎-elim (λ w. inl (w .0 .taken, w .1)) (λ w. inr (w .0 .left, w .1)) (c .before .if3 .came)) (c .if4 .taken)))
     (λ c. search needs)
     (λ c. search needs)
     (λ c.
     let p = c .before .before .before .before in
-    let l = p .before .before .before .before .before .loop in
-    let found = p .before .before .before .before .find .ensures .0 in
+    let l = turn p .loop in
     let same = toZ-ofZ {w = w8} (record { sfits = c .before .before .before .struct-told .given .0 .1 }) in (
       search needs,
       (
         omega (arith, on p),
         (
           simp length-set (l .inv .1 .1 .0),
-          next-piece _ (l .at) found (l .inv .1 .1 .1) (p .before .before .piece-of .ensures) (p .if2 .left) (fits p) same
+          next-piece _ (l .at) (found p .find .ensures .0) (l .inv .1 .1 .1) (p .before .before .piece-of .ensures) (p .if2 .left) (fits p) same
               (⊎-elim (λ w. inl (w .0 .taken, w .1)) (λ w. inr (w .0 .left, w .1)) (c .before .if3 .came)) (omega arith),
         ),
       ),

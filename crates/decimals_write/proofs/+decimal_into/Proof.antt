@@ -38,9 +38,11 @@ pub +decimal-into-spec : {M : Type 1} → statement M
     (λ c. search needs)
     (λ c. search needs)
     (λ c κs.
-    let s = c .before .before .before .before .before .before .before in
-    omega (arith, c .before .before .before .decimal-into .ensures .place, one-more (s .args .n) (omega arith)))
+    let tenth = c .before .before .before in
+    let start = tenth .before .before .before .before in
+    omega (arith, tenth .decimal-into .ensures .place, one-more (start .args .n) (omega arith)))
     (λ c. search needs)
     (λ c.
-    appended-as (more-digits _ (omega arith))
-    (appended-two (c .before .before .before .before .before .before .decimal-into .ensures) (c .before .before .put2 .ensures)))
+    let last = c .before .before in
+    let tenth = last .before .before .before .before in
+    appended-as (more-digits _ (omega arith)) (appended-two (tenth .decimal-into .ensures) (last .put2 .ensures)))

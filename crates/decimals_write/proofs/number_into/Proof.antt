@@ -15,17 +15,21 @@ number-into-spec =
     (λ c. search needs)
     (λ c κs. search needs)
     (λ c κs.
-    let s = c .before .before .before .before .before .before in
-    omega (arith, c .before .before .before .put .ensures .place, decimal-long 2 (s .size-of .result) (omega arith)))
+    let sign = c .before .before .before in
+    let read = sign .before .before .before in
+    omega (arith, sign .put .ensures .place, decimal-long 2 (read .magnitude .result) (omega arith)))
     (λ c. search needs)
     (λ c.
-    let s = c .before .before .before .before .before .before .before .before .before in
-    let sign = c .before .before .before .before .before .before .before .before .if1 .taken in
-    appended-as (negative-text _ (s .before .before .fits .z) (s .size-of .ensures) sign)
-    (appended-two (c .before .before .before .before .before .before .put .ensures) (c .before .before .decimal-into .ensures)))
-    (λ c κs. omega (arith, decimal-long 2 (c .before .before .size-of .result) (omega arith)))
+    let digits = c .before .before in
+    let sign = digits .before .before .before .before in
+    let negative = sign .before .before in
+    let read = negative .before in
+    appended-as (negative-text _ (read .before .before .fits .z) (read .magnitude .ensures) (negative .if1 .taken))
+    (appended-two (sign .put .ensures) (digits .decimal-into .ensures)))
+    (λ c κs. omega (arith, decimal-long 2 (c .before .before .magnitude .result) (omega arith)))
     (λ c. search needs)
     (λ c.
-    let s = c .before .before .before .before .before in
-    appended-as (plain-text _ (s .before .before .fits .z) (s .size-of .ensures) (c .before .before .before .before .if1 .left))
-    (c .before .before .decimal-into2 .ensures)))
+    let digits = c .before .before in
+    let plain = digits .before .before in
+    let read = plain .before in
+    appended-as (plain-text _ (read .before .before .fits .z) (read .magnitude .ensures) (plain .if1 .left)) (digits .decimal-into2 .ensures)))

@@ -27,14 +27,15 @@ signed-into-spec =
     (λ c. search needs)
     (λ c. search needs)
     (λ c.
-    let l = c .before .before .before .before .before .before .before .before .before .before .loop in
-    let p = c .before .before .before .before .before .before .before .put2 in
-    let z = c .before .before .before .before .number-into-arg3 in
-    let n = c .before .before .number-into2 in (
+    let number = c .before .before in
+    let element = number .before .before in
+    let comma = element .before .before .before in
+    let l = comma .before .before .before .loop in (
       search needs,
       (
-        n .kept .1 .1 .0 ∙ p .kept .1 .1 .0 ∙ l .inv .1 .0,
-        written-more _ (l .i) (search needs) (record { sfits = z .given }) (l .inv .1 .1) (p .ensures) (n .ensures),
+        number .number-into2 .kept .1 .1 .0 ∙ comma .put2 .kept .1 .1 .0 ∙ l .inv .1 .0,
+        written-more _ (l .i) (search needs) (record { sfits = element .number-into-arg3 .given }) (l .inv .1 .1) (comma .put2 .ensures)
+            (number .number-into2 .ensures),
       ),
     ))
     (λ c. search needs)

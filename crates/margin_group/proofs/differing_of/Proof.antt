@@ -28,8 +28,9 @@ differing-of-spec =
     (λ c. search needs)
     (λ c. search needs)
     (λ c.
-    let loop = c .before .before .before .before .loop in
-    let start = c .before .before .before .before .before .before .before in
+    let turn = c .before .before .before .before in
+    let loop = turn .loop in
+    let start = turn .before .before .before in
     let more = differing-more (start .args .a .now) (start .args .b .now) (start .pre) (loop .i) (loop .count) (omega arith) (loop .inv .1) (c .differ .ensures .0) in
     (omega arith, more))
     (λ c.

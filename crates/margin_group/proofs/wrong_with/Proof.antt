@@ -4,11 +4,21 @@ use Rattle.margin_group.specs.Laws.Measures.{wrong-steps}
 use Rattle.margin_group.proofs.wrong_with.Statement.{statement}
 use Rattle.margin_group.proofs.wrong_with.Tie as tie
 
+-- the points before the bits are compared: after decryption, after encryption, and the start
+abbrev decrypted-of : tie.After-wrong-bits → tie.After-decrypt-with
+decrypted-of c = c .before .before .before .before .before .before
+
+abbrev encrypted-of : tie.After-decrypt-with → tie.After-encrypt-with
+encrypted-of c = c .before .before .before .before .before .before .before .before .before
+
+abbrev start-of : tie.After-encrypt-with → tie.Start
+start-of c = c .before .before .before .before .before .before .before .before .before .before
+
 returns : tie.Need-returns
 returns c =
-    let decrypted = c .before .before .before .before .before .before in
-    let encrypted = decrypted .before .before .before .before .before .before .before .before .before in
-    let a = encrypted .before .before .before .before .before .before .before .before .before .before .args in
+    let decrypted = decrypted-of c in
+    let encrypted = encrypted-of decrypted in
+    let a = start-of encrypted .args in
     wrong-steps (a .p) (a .«public-key» .now) (a .coins .now) (a .message .now) (a .«secret-key» .now) (encrypted .encrypt-with .ensures)
     (decrypted .decrypt-with .ensures) (c .wrong-bits .ensures)
 

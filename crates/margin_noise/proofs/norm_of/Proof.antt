@@ -37,12 +37,14 @@ norm-of-spec =
     (λ c. search needs)
     (λ c. search needs)
     (λ c.
-    let loop = c .before .before .before .before .before .loop in
-    let a = c .before .before .before .before .before .before .args in
+    let compared = c .before in
+    let turn = compared .before .before .before .before in
+    let loop = turn .loop in
+    let a = turn .before .args in
     let f = near (a .left .now) (a .right .now) in (
       omega arith,
       norm-more (from 256 f) (loop .k) (loop .most) (omega (arith, length-from 256 f)) (loop .inv .1)
-          (c .larger .ensures ∙ ap (max (loop .most)) (c .before .magnitude .ensures ∙ ap natAbs (sym (from-at 256 f (pos 0) (loop .k) (omega arith))))),
+          (c .larger .ensures ∙ ap (max (loop .most)) (compared .magnitude .ensures ∙ ap natAbs (sym (from-at 256 f (pos 0) (loop .k) (omega arith))))),
     ))
     (λ c.
     let loop = c .before .loop in

@@ -17,18 +17,22 @@ difference-into-spec =
     omega (arith, ap length (negative-text (x .a) (x .b) (c .before .if1 .taken))))
     (λ c. search needs)
     (λ c κs.
-    let x = c .before .before .before .before .before .before .before .args in
-    let less = c .before .before .before .before .before .if1 .taken in
-    omega (arith, c .before .before .before .put .ensures .place, ap length (negative-text (x .a) (x .b) less)))
+    let sign = c .before .before .before in
+    let less = sign .before .before in
+    let x = less .before .before .args in
+    omega (arith, sign .put .ensures .place, ap length (negative-text (x .a) (x .b) (less .if1 .taken))))
     (λ c. search needs)
     (λ c.
-    let x = c .before .before .before .before .before .before .before .before .before .before .args in
-    appended-as (negative-text (x .a) (x .b) (c .before .before .before .before .before .before .before .before .if1 .taken))
-    (appended-two (c .before .before .before .before .before .before .put .ensures) (c .before .before .decimal-into .ensures)))
+    let digits = c .before .before in
+    let sign = digits .before .before .before .before in
+    let less = sign .before .before in
+    let x = less .before .before .args in
+    appended-as (negative-text (x .a) (x .b) (less .if1 .taken)) (appended-two (sign .put .ensures) (digits .decimal-into .ensures)))
     (λ c κs.
     let x = c .before .before .before .args in
     omega (arith, ap length (plain-text (x .a) (x .b) (omega arith))))
     (λ c. search needs)
     (λ c.
-    let x = c .before .before .before .before .before .before .args in
-    appended-as (plain-text (x .a) (x .b) (omega arith)) (c .before .before .decimal-into2 .ensures)))
+    let digits = c .before .before in
+    let x = digits .before .before .before .before .args in
+    appended-as (plain-text (x .a) (x .b) (omega arith)) (digits .decimal-into2 .ensures)))

@@ -35,11 +35,12 @@ line-into-requires c κs =
 returns : tie.Need-returns
 unfolding ascii from
 returns c =
-    let h = c .before .before .before .before .before .before in
+    let line = c .before .before in
+    let h = line .before .before .before .before in
     let r = h .before .before .before in
     let t = r .before in
     figures-appended (t .before .before .before .before .args .set) (t .before .set-params .ensures) (t .totals-of .ensures)
-    (r .rest-of .ensures .0) (h .text-into .ensures) (c .before .before .line-into .ensures)
+    (r .rest-of .ensures .0) (h .text-into .ensures) (line .line-into .ensures)
 
 pub figures-into-spec : {M : Type 1} → statement M
 figures-into-spec =

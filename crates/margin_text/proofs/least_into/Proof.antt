@@ -21,8 +21,10 @@ least-into-spec =
     omega (arith, ap length (none-text (x .p) (x .cases) (x .norm) (c .before .before .if1 .taken))))
     (λ c. search needs)
     (λ c.
-    let x = c .before .before .before .before .before .before .before .args in
-    appended-as (none-text (x .p) (x .cases) (x .norm) (c .before .before .before .before .before .if1 .taken)) (c .before .before .text-into .ensures))
+    let text = c .before .before in
+    let empty = text .before .before .before in
+    let x = empty .before .before .args in
+    appended-as (none-text (x .p) (x .cases) (x .norm) (empty .if1 .taken)) (text .text-into .ensures))
     (λ c. search needs)
     (λ c. search needs)
     (λ c κs.
@@ -30,5 +32,7 @@ least-into-spec =
     omega (arith, ap length (some-text (x .p) (x .cases) (x .norm) (c .before .before .if1 .left))))
     (λ c. search needs)
     (λ c.
-    let x = c .before .before .before .before .before .before .before .args in
-    appended-as (some-text (x .p) (x .cases) (x .norm) (c .before .before .before .before .before .if1 .left)) (c .before .before .difference-into .ensures)))
+    let text = c .before .before in
+    let some = text .before .before .before in
+    let x = some .before .before .args in
+    appended-as (some-text (x .p) (x .cases) (x .norm) (some .if1 .left)) (text .difference-into .ensures)))

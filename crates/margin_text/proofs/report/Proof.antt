@@ -20,8 +20,10 @@ report-spec =
     (λ c. search needs)
     (λ c κs. (sym (c .before .before .before .is-set .ensures) ∙ c .before .before .if2 .taken, search needs))
     (λ c.
-    let input = c .before .before .before .before .before .before .before .before .args .input .now in
-    let set = sym (c .before .before .before .before .is-set .ensures) ∙ c .before .before .before .if2 .taken in
+    let chosen = c .before .before .before in
+    let asked = chosen .before in
+    let input = asked .before .before .before .before .args .input .now in
+    let set = sym (asked .is-set .ensures) ∙ chosen .if2 .taken in
     rw (report-set input set (last-part 1 (length input) input refl)) (whole (c .figures-into .ensures)))
     (λ c κs. search needs)
     (λ c.

@@ -11,6 +11,4 @@ text-into-spec =
     (λ c κs. search needs)
     (λ c. search needs)
     (λ c. search needs)
-    (λ c.
-    let copied = c .before .before in
-    appended-copy _ _ _ (copied .before .before .before .before .pre) (copied .copy-at .ensures)))
+    (λ c. let copied = c .before .before in appended-copy _ _ _ (copied .before .before .before .before .pre) (copied .copy-at .ensures)))

@@ -11,4 +11,4 @@ word-into-spec =
     (λ c κs. search needs)
     (λ c κs. search needs)
     (λ c. search needs)
-    (λ c. appended-two (c .before .before .before .before .before .before .decimal-into .ensures) (c .before .before .put .ensures)))
+    (λ c. let last = c .before .before in appended-two (last .before .before .before .before .decimal-into .ensures) (last .put .ensures)))

@@ -17,4 +17,4 @@ words-into-spec =
     let first = c .before .before .before in
     omega (arith, first .word-into .ensures .place, length-append (decimal (first .before .before .before .args .m)) (32 ∷ [])))
     (λ c. search needs)
-    (λ c. appended-two (c .before .before .before .before .before .before .word-into .ensures) (c .before .before .word-into2 .ensures)))
+    (λ c. let second = c .before .before in appended-two (second .before .before .before .before .word-into .ensures) (second .word-into2 .ensures)))
