@@ -6,8 +6,8 @@ use call_words::List;
 use call_words::Optional;
 use call_words::Signed;
 use call_words::Step;
-use records::Door;
-use records::Time;
+use record_format::Door;
+use record_format::Time;
 
 // How many arguments of each kind a call takes, in the order in which they stand.
 pub struct Shape {

@@ -11,9 +11,9 @@ use call_words::Bytes;
 use call_words::List;
 use call_words::Signed;
 use call_words::Text;
-use records::Door;
-use records::Read;
-use records::Time;
+use record_format::Door;
+use record_format::Read;
+use record_format::Time;
 
 // The first n bytes of a buffer, or all of it, and the same of lists.
 fn front(bytes: &[u8], n: usize) -> &[u8] {
@@ -168,7 +168,10 @@ fn answer_secret(a: Arguments, bytes: &[u8], signed: &mut [i8], text: &mut Text)
 fn answer_read(a: Arguments, bytes: &[u8], ciphertext: &mut [u8], text: &mut Text) -> bool {
     let ends = a.ends;
     let n = call_words::least(call_arguments::part(bytes, ends, 5).len(), ciphertext.len());
-    let read = records::read_record(call_arguments::part(bytes, ends, 0), &mut ciphertext[0..n]);
+    let read = record_reader::read_record(
+        call_arguments::part(bytes, ends, 0),
+        &mut ciphertext[0..n],
+    );
     print_read(read) && print(b" ") && print_word(front(ciphertext, n), text)
 }
 

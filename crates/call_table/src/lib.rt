@@ -174,6 +174,6 @@ pub fn make_call(
         Call::Shake128 => sha3::shake128(first, output),
         Call::Sha3256 => sha3::sha3_256(first, output),
         Call::Sha3512 => sha3::sha3_512(first, output),
-        Call::WriteRecord => records::write_record(door, time, number, first, output),
+        Call::WriteRecord => record_writer::write_record(door, time, number, first, output),
     }
 }
