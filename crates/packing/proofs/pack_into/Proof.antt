@@ -40,17 +40,13 @@ one : (a : ℕ) (xs : List ℕ) (i : ℕ) → i < length xs → getD xs i 0 ≡ 
 unfolding number
 one a xs i h = rw (drop-cons xs i 0 h) (omega (arith, mul-zero (2 ^ a)))
 
--- the start of the turn in which a coefficient is read
-abbrev turn-of : tie.After-append-bits Inv-loop μ-loop → tie.At-loop Inv-loop μ-loop
-turn-of c = c .before .before .before .before
-
 -- a coefficient is read
 more : (c : tie.After-append-bits Inv-loop μ-loop) →
-    let t = turn-of c in
+    let t = c .before .before .before .before in
     let s = t .before .before .before .args in
     Cutting (s .width) 8 (s .coefficients .now) (t .loop .bytes) (c .append-bits .result) (t .loop .held + s .width) (t .loop .i + 1) (t .loop .j)
 more c =
-    let t = turn-of c in
+    let t = c .before .before .before .before in
     let s = t .before .before .before .args in
     let i = t .loop .i in
     let l = c .before .before .shared-slice-known2 .given i .fits in
@@ -58,6 +54,10 @@ more c =
     (read (t .loop .inv .cut) 1 (s .width) _ (omega arith) (omega arith) (omega arith)
     (lt-of-lt-of-le l (pow-mono {i = 16} (omega arith)))
     (one (s .width) (s .coefficients .now) i (omega arith)))
+
+-- the start of the turn in which a coefficient is read
+abbrev turn-of : tie.After-append-bits Inv-loop μ-loop → tie.At-loop Inv-loop μ-loop
+turn-of c = c .before .before .before .before
 
 -- with 32 bits held there are four bytes to write
 four : (c : tie.Then1 Inv-loop μ-loop) →
