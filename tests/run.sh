@@ -95,7 +95,7 @@ test_of 'random calls against the plain implementation' "$work/agree" 2000
 test_of 'sabercall under hostile input' python3 tests/hostile.py
 test_of 'sabercall on the known answers' python3 tests/kat.py
 test_of 'programs whose input or output fails' python3 tests/failing.py
-test_of 'README: its shell lines, C program, table and numbers' python3 tests/readme.py
+test_of 'README: its example, shell lines, table and numbers' python3 tests/readme.py
 test_with cargo 'README: its Rust example' python3 tests/readme.py rust
 test_with cargo 'the Rust package' cargo test --offline --quiet --manifest-path bindings/rust/Cargo.toml
 test_with cargo 'the Rust package, optimised' \
