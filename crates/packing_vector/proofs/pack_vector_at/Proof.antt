@@ -73,8 +73,8 @@ pack-vector-at-spec =
     (λ c. search needs)
     (λ c. search needs)
     (λ c. search needs)
-    (λ c. omega (arith, next (c .before .before)))
-    (λ c. omega (arith, next (c .before .before)))
+    (λ c. omega (arith, next (c .before)))
+    (λ c. omega (arith, next (c .before)))
     pack-at-requires
     (λ c. search needs)
     (λ c. search needs)
