@@ -6,7 +6,8 @@ use Rattle.kem.specs.Laws.Kem.{again-steps}
 use Rattle.kem.proofs.again_with.Statement.{statement}
 use Rattle.kem.proofs.again_with.Tie as tie
 
-abbrev kr-of : tie.After-encrypt-with-arg3 → tie.After-key-and-coins
+-- the points before the message is encrypted again: where k and r were made, where it was decrypted, and the start
+abbrev kr-of : tie.After-encrypt-with-arg4 → tie.After-key-and-coins
 kr-of c = c .before .before .before .before .before .before
 
 abbrev message-of : tie.After-key-and-coins → tie.After-decrypt-with
