@@ -52,7 +52,7 @@ fn select(found: Found, asked: &[u8], name: &[u8], form: Form) -> Found {
 }
 
 // The form of a call without optional numbers.
-fn form(
+fn call_form(
     found: Found,
     asked: &[u8],
     name: &[u8],
@@ -122,23 +122,23 @@ pub fn form_of(name: &[u8]) -> Found {
     let write = Request::Call(Call::WriteRecord);
     let f = byte_form(f, name, b"write_record", write, 2, 1, 1, 1);
     // name, numbers, byte strings, lists, byte outputs, list outputs
-    let f = form(f, name, b"keygen", Call::Keygen, 1, 3, 0, 2, 0);
-    let f = form(f, name, b"encaps", Call::Encaps, 1, 2, 0, 2, 0);
-    let f = form(f, name, b"decaps", Call::Decaps, 1, 2, 0, 1, 0);
-    let f = form(f, name, b"encrypt", Call::Encrypt, 1, 3, 0, 1, 0);
-    let f = form(f, name, b"decrypt", Call::Decrypt, 1, 2, 0, 1, 0);
-    let f = form(f, name, b"gen_matrix", Call::GenMatrix, 1, 1, 0, 0, 1);
-    let f = form(f, name, b"poly_mul", Call::PolyMul, 1, 0, 2, 0, 1);
+    let f = call_form(f, name, b"keygen", Call::Keygen, 1, 3, 0, 2, 0);
+    let f = call_form(f, name, b"encaps", Call::Encaps, 1, 2, 0, 2, 0);
+    let f = call_form(f, name, b"decaps", Call::Decaps, 1, 2, 0, 1, 0);
+    let f = call_form(f, name, b"encrypt", Call::Encrypt, 1, 3, 0, 1, 0);
+    let f = call_form(f, name, b"decrypt", Call::Decrypt, 1, 2, 0, 1, 0);
+    let f = call_form(f, name, b"gen_matrix", Call::GenMatrix, 1, 1, 0, 0, 1);
+    let f = call_form(f, name, b"poly_mul", Call::PolyMul, 1, 0, 2, 0, 1);
     let karatsuba = Call::PolyMulKaratsuba;
-    let f = form(f, name, b"poly_mul_karatsuba", karatsuba, 1, 0, 2, 0, 1);
-    let f = form(f, name, b"round", Call::Round, 0, 0, 1, 0, 1);
-    let f = form(f, name, b"recon_data", Call::ReconData, 1, 0, 1, 0, 1);
-    let f = form(f, name, b"recover", Call::Recover, 1, 0, 2, 0, 1);
-    let f = form(f, name, b"pack", Call::Pack, 1, 0, 1, 1, 0);
-    let f = form(f, name, b"unpack", Call::Unpack, 1, 1, 0, 0, 1);
-    let f = form(f, name, b"shake128", Call::Shake128, 0, 1, 0, 1, 0);
-    let f = form(f, name, b"sha3_256", Call::Sha3256, 0, 1, 0, 1, 0);
-    form(f, name, b"sha3_512", Call::Sha3512, 0, 1, 0, 1, 0)
+    let f = call_form(f, name, b"poly_mul_karatsuba", karatsuba, 1, 0, 2, 0, 1);
+    let f = call_form(f, name, b"round", Call::Round, 0, 0, 1, 0, 1);
+    let f = call_form(f, name, b"recon_data", Call::ReconData, 1, 0, 1, 0, 1);
+    let f = call_form(f, name, b"recover", Call::Recover, 1, 0, 2, 0, 1);
+    let f = call_form(f, name, b"pack", Call::Pack, 1, 0, 1, 1, 0);
+    let f = call_form(f, name, b"unpack", Call::Unpack, 1, 1, 0, 0, 1);
+    let f = call_form(f, name, b"shake128", Call::Shake128, 0, 1, 0, 1, 0);
+    let f = call_form(f, name, b"sha3_256", Call::Sha3256, 0, 1, 0, 1, 0);
+    call_form(f, name, b"sha3_512", Call::Sha3512, 0, 1, 0, 1, 0)
 }
 
 // Makes a call. An argument that the call does not have is 0 or empty.

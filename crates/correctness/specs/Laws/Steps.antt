@@ -8,7 +8,7 @@ use Rattle.sets.specs.declared.Params.{Params}
 use Rattle.sets.specs.Sets
 use Rattle.sets.specs.Sets.{paramsOf}
 use Rattle.sets.specs.Requires.{IsSet}
-use Rattle.sets.specs.Laws.Sets
+use Rattle.sets.specs.Laws.Sets.{is-set}
 use Rattle.sponge.specs.Laws.Sponge.{length-sponge, sponge-below}
 use Rattle.sha3.specs.Hashes.{shake128, sha3-256}
 use Rattle.pke.specs.Pke.{decrypted}
@@ -25,7 +25,7 @@ module _ (set : ℕ) (known : Sets.known set ≡ true) (matrixSeed secretSeed z 
   p = paramsOf set
 
   isSet : IsSet p
-  isSet = Sets.is-set set known
+  isSet = is-set set known
 
   module _ (within : NoiseWithin p matrixSeed secretSeed seed) where
     message-back : decrypted p (plainPart p (secretKey p matrixSeed secretSeed z)) (seedsCiphertext p matrixSeed secretSeed seed) ≡ messageOf seed

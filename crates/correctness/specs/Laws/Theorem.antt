@@ -12,7 +12,7 @@ use Rattle.sets.specs.declared.Params.{Params}
 use Rattle.sets.specs.Sets
 use Rattle.sets.specs.Sets.{paramsOf}
 use Rattle.sets.specs.Requires.{IsSet}
-use Rattle.sets.specs.Laws.Sets
+use Rattle.sets.specs.Laws.Sets.{is-set}
 use Rattle.scheme_questions.specs.Questions.{keygenQuestions, encapsQuestions, decapsQuestions, decryptQuestions}
 use Rattle.pke.specs.Promises.{Decrypted}
 use Rattle.pke.specs.Laws.Lengths.{length-encrypted}
@@ -59,7 +59,7 @@ module _
   known = ready .oneSet .known
 
   isSet : IsSet p
-  isSet = Sets.is-set set known
+  isSet = is-set set known
 
   -- the calls under the number that keys are generated under
   encapsulation : Encapsulated set pk' seed ct ss r2 ct' ss'
