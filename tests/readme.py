@@ -177,9 +177,11 @@ def oracle_example():
 def example_program(source):
     """Every answer is checked, the stack and the secrets are cleared, and what is printed is the oracle's."""
     *calls, last = re.findall(r"\bsaber_(\w+)\(", source)
-    unchecked = [call for call in calls if f'check("{call}", saber_{call}(' not in source]
-    if unchecked or last != "clear_stack" or "explicit_bzero(&own, sizeof own);" not in source:
-        raise Wrong(f"the example does not check {unchecked}, or does not clear the stack or its secrets")
+    for call in calls:
+        if f'check("{call}", saber_{call}(' not in source:
+            raise Wrong(f"the answer of {call} is not checked")
+    if last != "clear_stack" or "\n    explicit_bzero(&own, sizeof own);" not in source:
+        raise Wrong("the stack or the secrets are not cleared")
     printed, given = example_runs(source)
     if given != oracle_example():
         raise Wrong(f"of given seeds the example prints {given!r}, and the oracle {oracle_example()!r}")
