@@ -2,6 +2,7 @@
 ghost use Prim.Native.Nat.{_≤_};
 ghost use lib.ListN.{length};
 use call_arguments::Arguments;
+use call_arguments::Numbers;
 use call_arguments::Shape;
 use call_table::Call;
 use call_table::Form;
@@ -114,6 +115,43 @@ fn print_fault(fault: u8) -> bool {
     }
 }
 
+// Makes a call. An argument that the call does not have is 0 or empty.
+fn make_call(
+    call: Call,
+    numbers: Numbers,
+    first: &[u8],
+    second: &[u8],
+    third: &[u8],
+    left: &[u16],
+    right: &[u16],
+    output: &mut [u8],
+    extra: &mut [u8],
+    result: &mut [u16],
+) -> u8 {
+    let door = numbers.door;
+    let time = numbers.time;
+    let number = numbers.number;
+    match call {
+        Call::Keygen => keys::keygen(number, first, second, third, output, extra),
+        Call::Encaps => kem::encaps(number, first, second, output, extra),
+        Call::Decaps => kem::decaps(number, first, second, output),
+        Call::Encrypt => pke::encrypt(number, first, second, third, output),
+        Call::Decrypt => pke::decrypt(number, first, second, output),
+        Call::GenMatrix => sampling::gen_matrix(number, first, result),
+        Call::PolyMul => ring::poly_mul(number, left, right, result),
+        Call::PolyMulKaratsuba => karatsuba::poly_mul_karatsuba(number, left, right, result),
+        Call::Round => rounding::round(left, result),
+        Call::ReconData => reconciliation::recon_data(number, left, result),
+        Call::Recover => reconciliation::recover(number, left, right, result),
+        Call::Pack => packing::pack(number, left, output),
+        Call::Unpack => packing::unpack(number, first, result),
+        Call::Shake128 => sha3::shake128(first, output),
+        Call::Sha3256 => sha3::sha3_256(first, output),
+        Call::Sha3512 => sha3::sha3_512(first, output),
+        Call::WriteRecord => record_writer::write_record(door, time, number, first, output),
+    }
+}
+
 // Makes a call and prints its answer. A list or an output is the front of its buffer.
 fn answer_call(
     call: Call,
@@ -132,7 +170,7 @@ fn answer_call(
     let o = call_words::least(call_arguments::part(bytes, ends, 5).len(), output.len());
     let p = call_words::least(call_arguments::part(bytes, ends, 6).len(), extra.len());
     let q = call_words::least(call_arguments::part(bytes, ends, 7).len() / 2, result.len());
-    let answer = call_table::make_call(
+    let answer = make_call(
         call,
         a.numbers,
         call_arguments::part(bytes, ends, 0),

@@ -1,5 +1,4 @@
-// The library's calls by name: what each takes, and the dispatch to it.
-use call_arguments::Numbers;
+// The library's calls by name, and what each takes.
 use call_arguments::Shape;
 
 // The calls that answer with a number.
@@ -99,9 +98,43 @@ fn byte_form(
     select(found, asked, name, Form { request, shape })
 }
 
-// The table.
-pub fn form_of(name: &[u8]) -> Found {
-    let f = Found::Nothing;
+// The table, by families. Each function has the form of its family that has the name, or else what was found before.
+fn scheme_form(f: Found, name: &[u8]) -> Found {
+    // name, numbers, byte strings, lists, byte outputs, list outputs
+    let f = call_form(f, name, b"keygen", Call::Keygen, 1, 3, 0, 2, 0);
+    let f = call_form(f, name, b"encaps", Call::Encaps, 1, 2, 0, 2, 0);
+    let f = call_form(f, name, b"decaps", Call::Decaps, 1, 2, 0, 1, 0);
+    let f = call_form(f, name, b"encrypt", Call::Encrypt, 1, 3, 0, 1, 0);
+    call_form(f, name, b"decrypt", Call::Decrypt, 1, 2, 0, 1, 0)
+}
+
+fn polynomial_form(f: Found, name: &[u8]) -> Found {
+    let f = call_form(f, name, b"gen_matrix", Call::GenMatrix, 1, 1, 0, 0, 1);
+    let f = call_form(f, name, b"poly_mul", Call::PolyMul, 1, 0, 2, 0, 1);
+    let karatsuba = Call::PolyMulKaratsuba;
+    let f = call_form(f, name, b"poly_mul_karatsuba", karatsuba, 1, 0, 2, 0, 1);
+    let f = call_form(f, name, b"round", Call::Round, 0, 0, 1, 0, 1);
+    let f = call_form(f, name, b"recon_data", Call::ReconData, 1, 0, 1, 0, 1);
+    call_form(f, name, b"recover", Call::Recover, 1, 0, 2, 0, 1)
+}
+
+fn byte_string_form(f: Found, name: &[u8]) -> Found {
+    let f = call_form(f, name, b"pack", Call::Pack, 1, 0, 1, 1, 0);
+    let f = call_form(f, name, b"unpack", Call::Unpack, 1, 1, 0, 0, 1);
+    let f = call_form(f, name, b"shake128", Call::Shake128, 0, 1, 0, 1, 0);
+    let f = call_form(f, name, b"sha3_256", Call::Sha3256, 0, 1, 0, 1, 0);
+    call_form(f, name, b"sha3_512", Call::Sha3512, 0, 1, 0, 1, 0)
+}
+
+fn entry_form(f: Found, name: &[u8]) -> Found {
+    // name, optional numbers, numbers, byte strings, byte outputs
+    let f = byte_form(f, name, b"public_key_of", Request::PublicKeyOf, 0, 1, 1, 0);
+    let f = byte_form(f, name, b"read_record", Request::ReadRecord, 0, 0, 1, 1);
+    let write = Request::Call(Call::WriteRecord);
+    byte_form(f, name, b"write_record", write, 2, 1, 1, 1)
+}
+
+fn secret_form(f: Found, name: &[u8]) -> Found {
     let shape = Shape {
         optionals: 0,
         numbers: 1,
@@ -111,69 +144,15 @@ pub fn form_of(name: &[u8]) -> Found {
         list_outputs: 0,
         signed_outputs: 1,
     };
-    let secret = Form {
-        request: Request::GenSecret,
-        shape,
-    };
-    let f = select(f, name, b"gen_secret", secret);
-    // name, optional numbers, numbers, byte strings, byte outputs
-    let f = byte_form(f, name, b"public_key_of", Request::PublicKeyOf, 0, 1, 1, 0);
-    let f = byte_form(f, name, b"read_record", Request::ReadRecord, 0, 0, 1, 1);
-    let write = Request::Call(Call::WriteRecord);
-    let f = byte_form(f, name, b"write_record", write, 2, 1, 1, 1);
-    // name, numbers, byte strings, lists, byte outputs, list outputs
-    let f = call_form(f, name, b"keygen", Call::Keygen, 1, 3, 0, 2, 0);
-    let f = call_form(f, name, b"encaps", Call::Encaps, 1, 2, 0, 2, 0);
-    let f = call_form(f, name, b"decaps", Call::Decaps, 1, 2, 0, 1, 0);
-    let f = call_form(f, name, b"encrypt", Call::Encrypt, 1, 3, 0, 1, 0);
-    let f = call_form(f, name, b"decrypt", Call::Decrypt, 1, 2, 0, 1, 0);
-    let f = call_form(f, name, b"gen_matrix", Call::GenMatrix, 1, 1, 0, 0, 1);
-    let f = call_form(f, name, b"poly_mul", Call::PolyMul, 1, 0, 2, 0, 1);
-    let karatsuba = Call::PolyMulKaratsuba;
-    let f = call_form(f, name, b"poly_mul_karatsuba", karatsuba, 1, 0, 2, 0, 1);
-    let f = call_form(f, name, b"round", Call::Round, 0, 0, 1, 0, 1);
-    let f = call_form(f, name, b"recon_data", Call::ReconData, 1, 0, 1, 0, 1);
-    let f = call_form(f, name, b"recover", Call::Recover, 1, 0, 2, 0, 1);
-    let f = call_form(f, name, b"pack", Call::Pack, 1, 0, 1, 1, 0);
-    let f = call_form(f, name, b"unpack", Call::Unpack, 1, 1, 0, 0, 1);
-    let f = call_form(f, name, b"shake128", Call::Shake128, 0, 1, 0, 1, 0);
-    let f = call_form(f, name, b"sha3_256", Call::Sha3256, 0, 1, 0, 1, 0);
-    call_form(f, name, b"sha3_512", Call::Sha3512, 0, 1, 0, 1, 0)
+    let request = Request::GenSecret;
+    select(f, name, b"gen_secret", Form { request, shape })
 }
 
-// Makes a call. An argument that the call does not have is 0 or empty.
-pub fn make_call(
-    call: Call,
-    numbers: Numbers,
-    first: &[u8],
-    second: &[u8],
-    third: &[u8],
-    left: &[u16],
-    right: &[u16],
-    output: &mut [u8],
-    extra: &mut [u8],
-    result: &mut [u16],
-) -> u8 {
-    let door = numbers.door;
-    let time = numbers.time;
-    let number = numbers.number;
-    match call {
-        Call::Keygen => keys::keygen(number, first, second, third, output, extra),
-        Call::Encaps => kem::encaps(number, first, second, output, extra),
-        Call::Decaps => kem::decaps(number, first, second, output),
-        Call::Encrypt => pke::encrypt(number, first, second, third, output),
-        Call::Decrypt => pke::decrypt(number, first, second, output),
-        Call::GenMatrix => sampling::gen_matrix(number, first, result),
-        Call::PolyMul => ring::poly_mul(number, left, right, result),
-        Call::PolyMulKaratsuba => karatsuba::poly_mul_karatsuba(number, left, right, result),
-        Call::Round => rounding::round(left, result),
-        Call::ReconData => reconciliation::recon_data(number, left, result),
-        Call::Recover => reconciliation::recover(number, left, right, result),
-        Call::Pack => packing::pack(number, left, output),
-        Call::Unpack => packing::unpack(number, first, result),
-        Call::Shake128 => sha3::shake128(first, output),
-        Call::Sha3256 => sha3::sha3_256(first, output),
-        Call::Sha3512 => sha3::sha3_512(first, output),
-        Call::WriteRecord => record_writer::write_record(door, time, number, first, output),
-    }
+// The form of the request with this name.
+pub fn form_of(name: &[u8]) -> Found {
+    let f = scheme_form(Found::Nothing, name);
+    let f = polynomial_form(f, name);
+    let f = byte_string_form(f, name);
+    let f = entry_form(f, name);
+    secret_form(f, name)
 }
