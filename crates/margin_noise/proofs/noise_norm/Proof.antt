@@ -3,6 +3,9 @@ use borrow.Author.Needs.{needs}
 use Rattle.margin_noise.proofs.noise_norm.Statement.{statement}
 use Rattle.margin_noise.proofs.noise_norm.Tie as tie
 
+abbrev start : tie.After-work → tie.Start
+start c = c .before .before .before .before .before
+
 pub noise-norm-spec : {M : Type 1} → statement M
 noise-norm-spec =
     tie.close
@@ -18,7 +21,7 @@ noise-norm-spec =
     (λ c. search needs)
     (λ c κs.
     record {
-      fits = c .before .before .before .before .before .pre;
+      fits = start c .pre;
       sWordsLong = search needs;
       tWordsLong = search needs;
       cutLong = search needs;

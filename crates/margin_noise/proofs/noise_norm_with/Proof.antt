@@ -6,8 +6,12 @@ use Rattle.margin_noise.specs.Laws.Exact.{noise-steps}
 use Rattle.margin_noise.proofs.noise_norm_with.Statement.{statement}
 use Rattle.margin_noise.proofs.noise_norm_with.Tie as tie
 
-abbrev first-of : tie.After-product-with2 → tie.After-product-with
-first-of c = c .before .before .before .before .before .before .before .before .before
+-- the points, from the last one back: the two products, the two secrets modulo 65536, and the start
+abbrev second-of : tie.After-norm-of → tie.After-product-with2
+second-of c = c .before .before .before .before .before .before .before
+
+abbrev first-of : tie.After-product-with-arg8 → tie.After-product-with
+first-of c = c .before .before .before .before .before .before .before .before
 
 abbrev encryption-of : tie.After-product-with → tie.After-words-into2
 encryption-of c = c .before .before .before .before .before .before .before
@@ -20,7 +24,7 @@ start-of c = c .before .before .before .before .before .before .before
 
 product-with-requires-2 : tie.Need-product-with-requires-2
 product-with-requires-2 c κs =
-    let first = c .before .before .before .before .before .before .before .before in
+    let first = first-of c in
     let encryption = encryption-of first in
     let making = making-of encryption in
     let scratch = start-of making .pre in
@@ -36,8 +40,8 @@ product-with-requires-2 c κs =
 
 returns : tie.Need-returns
 returns c =
-    let second = c .before .before .before .before .before .before .before in
-    let first = first-of second in
+    let second = second-of c in
+    let first = first-of (second .before) in
     let encryption = encryption-of first in
     let making = making-of encryption in
     let start = start-of making in
@@ -54,7 +58,7 @@ noise-norm-with-spec =
     (λ c κs. search needs)
     product-with-requires-2
     (λ c κs. search needs)
-    (λ c. making-of (encryption-of (first-of (c .before .before .before .before .before .before .before))) .words-into .kept .1 .0)
+    (λ c. making-of (encryption-of (first-of (second-of c .before))) .words-into .kept .1 .0)
     (λ c. search needs)
     (λ c. search needs)
     (λ c. search needs)

@@ -6,6 +6,9 @@ use Rattle.matrix.specs.Laws.Zeros.{zeros-first}
 use Rattle.margin_noise.proofs.product_with.Statement.{statement}
 use Rattle.margin_noise.proofs.product_with.Tie as tie
 
+abbrev start : tie.After-exact → tie.Start
+start c = c .before .before .before .before .before .before .before .before
+
 pub product-with-spec : {M : Type 1} → statement M
 product-with-spec =
     tie.close
@@ -15,7 +18,7 @@ product-with-spec =
     (λ c. search needs)
     (λ c. search needs)
     (λ c κs.
-    let s = c .before .before .before .before .before .before .before .before in
+    let s = start c in
     record {
       fits = record {
         matrix = s .pre .matrixLong;
