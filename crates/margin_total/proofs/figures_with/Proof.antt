@@ -5,7 +5,10 @@ use Rattle.margin_total.specs.Laws.Group.{group-steps}
 use Rattle.margin_total.proofs.figures_with.Statement.{statement}
 use Rattle.margin_total.proofs.figures_with.Tie as tie
 
--- the keys, from where the coins are made, and the start, from the keys
+-- the points, from the norm back: the coins, the keys, and the start
+abbrev coins-of : tie.After-norm-of → tie.After-key-and-coins
+coins-of c = c .before .before .before .before .before
+
 abbrev keys-of : tie.After-key-and-coins → tie.After-keygen-with
 keys-of c = c .before .before .before .before .before .before .before .before .before .before .before .before .before
 
@@ -20,7 +23,8 @@ norm-of-requires c κs =
 
 wrong-of-requires : tie.Need-wrong-of-requires
 wrong-of-requires c κs =
-    let keys = keys-of (c .before .before .before .before .before .before .before .before .before .before) in
+    let lent = c .before .before .before .before in
+    let keys = keys-of (coins-of (lent .before)) in
     let scratch = start-of keys .pre in
     record {
       isSet = scratch .isSet;
@@ -30,8 +34,9 @@ wrong-of-requires c κs =
 
 returns : tie.Need-returns
 returns c =
-    let norm = c .before .before .before .before .before .before in
-    let kr = norm .before .before .before .before .before in
+    let lent = c .before .before .before .before in
+    let norm = lent .before .before in
+    let kr = coins-of norm in
     let hash = kr .before .before .before in
     let keys = keys-of kr in
     group-steps _ (start-of keys .pre .isSet) _ _ (keys .keygen-with .ensures) (hash .before .before .hash256 .ensures)
