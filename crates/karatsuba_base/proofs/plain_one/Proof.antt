@@ -8,13 +8,26 @@ use Rattle.karatsuba_base.specs.Laws.Base.{row-value, plain-none, plain-
 use Rattle.karatsuba_base.proofs.plain_one.Statement.{statement}
 use Rattle.karatsuba_base.proofs.plain_one.Tie as tie
 
+-- from the arguments of the second `put` back: the first one, both products and the start
+abbrev put-done : tie.After-put-arg4 → tie.After-put
+put-done c = c .before .before .before .before .before
+
+abbrev upper-done : tie.After-put → tie.After-upper
+upper-done c = c .before .before .before .before
+
+abbrev lower-done : tie.After-upper → tie.After-lower
+lower-done c = c .before .before .before .before
+
+abbrev start : tie.After-lower → tie.Start
+start c = c .before .before .before .before .before
+
 returns : tie.Need-returns
 returns c =
     let second = c .before .before in
-    let first = second .before .before .before .before .before .before in
-    let u = first .before .before .before .before in
-    let l = u .before .before .before .before in
-    let s = l .before .before .before .before .before in
+    let first = put-done (second .before) in
+    let u = upper-done first in
+    let l = lower-done u in
+    let s = start l in
     let w = s .args .work .now in
     let a = s .args .a in
     let r = u .upper in
@@ -52,20 +65,20 @@ plain-one-spec =
     (λ c. omega arith)
     (λ c. omega arith)
     (λ c κs.
-    let p = c .before .before .before .before .before .before .before .before .pre .operands in
+    let p = start (c .before .before .before) .pre .operands in
     record { eight = simp (length-take, length-drop) (omega (arith, p)); whole = simp (length-take, length-drop) (omega (arith, p)) })
     (λ c. omega arith)
     (λ c. omega arith)
     (λ c. omega arith)
     (λ c κs.
-    let p = c .before .before .before .before .before .before .before .before .before .before .before .before .pre in
+    let p = start (lower-done (c .before .before .before)) .pre in
     simp (length-take, length-drop) (omega (arith, p)))
     (λ c. omega arith)
     (λ c. omega arith)
     (λ c. omega arith)
     (λ c. omega arith)
     (λ c κs.
-    let p = c .before .before .before .before .before .before .before .before .before .before .before .before .before .before .before .before .before .before .pre in
+    let p = start (lower-done (upper-done (put-done c))) .pre in
     simp (length-take, length-drop) (omega (arith, p)))
     (λ c. omega arith)
     returns)

@@ -17,29 +17,45 @@ Inv-loop rows a out work₀ b i₀ work i = (i ≤ rows) × Plain rows i a out w
 abbrev μ-loop : tie.MeasureT-loop
 μ-loop rows a out work₀ b i₀ work i = rows - i
 
+-- from the arguments of the second `put` back: the first one, both products, the turn and the start
+abbrev put-done : tie.After-put-arg4 Inv-loop μ-loop → tie.After-put Inv-loop μ-loop
+put-done c = c .before .before .before .before .before
+
+abbrev upper-done : tie.After-put Inv-loop μ-loop → tie.After-upper Inv-loop μ-loop
+upper-done c = c .before .before .before .before
+
+abbrev lower-done : tie.After-upper Inv-loop μ-loop → tie.After-lower Inv-loop μ-loop
+lower-done c = c .before .before .before .before .before
+
+abbrev turn : tie.After-lower Inv-loop μ-loop → tie.In-loop Inv-loop μ-loop
+turn c = c .before .before .before .before .before
+
+abbrev start : tie.In-loop Inv-loop μ-loop → tie.Start Inv-loop μ-loop
+start c = c .before .before .before .before .before
+
 -- in a turn row i and its products stand in the slice
 within :
     (c : tie.In-loop Inv-loop μ-loop) →
-    let x = c .before .before .before .before .before .args in
+    let x = start c .args in
     let i = c .before .loop .i in
     let size = length (c .before .loop .work) in
     (x .a + 24 * i + 32 ≤ size) × (x .out + 16 * i + 16 * x .rows + 16 ≤ size)
 within c =
-    let p = c .before .before .before .before .before .pre in
+    let p = start c .pre in
     let l = c .before .loop .inv .1 .size in
     (omega (arith, p .operands, l), omega (arith, p .product, l))
 
 loop-again : tie.Need-loop-again Inv-loop μ-loop
 loop-again c =
     let second = c .before .before in
-    let first = second .before .before .before .before .before .before in
-    let u = first .before .before .before .before in
-    let o = u .before .before .before .before .before in
-    let l = o .before .before .before .before .before in
+    let first = put-done (second .before) in
+    let u = upper-done first in
+    let o = lower-done u in
+    let l = turn o in
     let hi = l .loop-test .taken in
     let d = l .before in
     let p = d .loop .inv .1 in
-    let s = d .before .before .before .before in
+    let s = start l in
     let w = s .args .work .now in
     let a = s .args .a in
     let i = d .loop .i in
@@ -90,27 +106,30 @@ plain-rows-spec =
     (λ c. omega arith)
     (λ c. omega arith)
     (λ c κs.
-    let w = within (c .before .before .before .before .before .before .before .before .before) in
+    let w = within (turn (c .before .before .before .before)) in
     record { eight = simp (length-take, length-drop) (omega (arith, w)); whole = simp (length-take, length-drop) (omega (arith, w)) })
     (λ c. omega arith)
     (λ c. omega arith)
     (λ c. omega arith)
     (λ c. omega arith)
     (λ c. omega arith)
-    (λ c κs. let w = within (c .before .before .before .before .before .before .before .before .before .before .before .before .before) in simp (length-take, length-drop) (omega (arith, w)))
+    (λ c κs.
+    let w = within (turn (lower-done (c .before .before .before))) in
+    simp (length-take, length-drop) (omega (arith, w)))
     (λ c. omega arith)
     (λ c. omega arith)
     (λ c. omega arith)
     (λ c. omega arith)
     (λ c. omega arith)
     (λ c κs.
-    let u = c .before .before .before .before .before in
-    let w = within (u .before .before .before .before .before .before .before .before .before .before .before .before .before .before) in
+    let u = put-done c in
+    let w = within (turn (lower-done (upper-done u))) in
     simp (length-take, length-drop) (omega (arith, w, u .put .ensures .size)))
     (λ c. omega arith)
     (λ c. omega arith)
     loop-again
     (λ c. omega arith)
     (λ c.
-    let e : c .before .loop .i ≡ c .before .before .before .before .before .args .rows = omega arith in
-    rw e at (c .before .loop .inv .1)))
+    let d = c .before in
+    let e : d .loop .i ≡ d .before .before .before .before .args .rows = omega arith in
+    rw e at (d .loop .inv .1)))

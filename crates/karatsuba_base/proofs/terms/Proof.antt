@@ -24,10 +24,11 @@ loop-holds c = (omega arith, same-refl (pos 0))
 
 loop-again : tie.Need-loop-again Inv-loop μ-loop
 loop-again c =
-    let d = c .before .before .before .before .before in
+    let multiplied = c .before in
+    let d = multiplied .before .before .before .before in
     let x = d .before .before .before .args in
     let f : ℕ → ℤ = λ i. reads (x .p .now) i *ℤ reads (x .padded .now) (x .t + 8 - i) in
-    (omega arith, terms-more f (d .loop .i) _ _ (d .loop .inv .1) refl (c .before .times .ensures) (c .wrapping-add-u16 .ensures))
+    (omega arith, terms-more f (d .loop .i) _ _ (d .loop .inv .1) refl (multiplied .times .ensures) (c .wrapping-add-u16 .ensures))
 
 returns : tie.Need-returns Inv-loop μ-loop
 unfolding window
