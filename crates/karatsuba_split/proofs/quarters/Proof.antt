@@ -16,14 +16,14 @@ abbrev μ-loop : tie.MeasureT-loop
 
 loop-again : tie.Need-loop-again Inv-loop μ-loop
 loop-again c =
-    let d = c .before .before .before .before .before .before .before .before .before .before .before .before .before in
-    let x = c .before .before .before .before .before .before .before .before .before .wrapping-sub-u16 in
-    let y = c .before .before .before .before .before .before .wrapping-sub-u162 in
-    let z = c .before .before .before .wrapping-sub-u163 in (
+    let z = c .before .before .before in
+    let y = z .before .before .before in
+    let x = y .before .before .before in
+    let d = x .before .before .before .before in (
       omega arith,
       quarters-more (omega arith) (d .loop .inv .1) refl
-          (second-one _ _ _ _ _ _ (x .ensures) (y .ensures) (c .before .wrapping-add-u16 .ensures))
-          (third-one _ _ _ _ _ _ (x .ensures) (z .ensures) (c .wrapping-sub-u164 .ensures)),
+          (second-one _ _ _ _ _ _ (x .wrapping-sub-u16 .ensures) (y .wrapping-sub-u162 .ensures) (c .before .wrapping-add-u16 .ensures))
+          (third-one _ _ _ _ _ _ (x .wrapping-sub-u16 .ensures) (z .wrapping-sub-u163 .ensures) (c .wrapping-sub-u164 .ensures)),
     )
 
 pub quarters-spec : {M : Type 1} → statement M
