@@ -33,15 +33,17 @@ fold-spec =
     (λ c. omega arith)
     (λ c. omega arith)
     (λ c κs.
-    let p = c .before .before .before .before .before .pre in
-    let h = c .before .loop-test .taken in
-    (omega (arith, p .0, h), simp (length-take, length-drop) (omega (arith, p .1, c .before .before .loop .inv .1 .size, h))))
+    let turn = c .before in
+    let p = turn .before .before .before .before .pre in
+    let h = turn .loop-test .taken in
+    (omega (arith, p .0, h), simp (length-take, length-drop) (omega (arith, p .1, turn .before .loop .inv .1 .size, h))))
     (λ c. omega arith)
     (λ c. omega arith)
     (λ c.
-    let d = c .before .before .before .before .before in
+    let folded = c .before .before in
+    let d = folded .before .before .before in
     let s = d .before .before .before in
-    let v = c .before .before .fold-row in
+    let v = folded .fold-row in
     (omega arith, written-more (d .loop .inv .1) _ (omega (arith, s .pre .1)) (v .kept .1 .1 .1 .0) (v .ensures ∙ rw (lent (d .loop .inv .1)) refl)))
     (λ c. c .before .loop .inv .1 .size)
     (λ c.

@@ -33,13 +33,15 @@ fold-row-spec =
     (λ c. omega (arith, chunk c))
     (λ c. omega arith)
     (λ c κs.
-    let p = c .before .before .before .before .before .pre in
-    let l = c .before .before .loop .inv .1 .size in
-    record { first = omega (arith, chunk (c .before), p .0); second = omega (arith, chunk (c .before), p .0); third = omega (arith, l, p .1) })
+    let turn = c .before in
+    let p = turn .before .before .before .before .pre in
+    let l = turn .before .loop .inv .1 .size in
+    record { first = omega (arith, chunk turn, p .0); second = omega (arith, chunk turn, p .0); third = omega (arith, l, p .1) })
     (λ c. omega arith)
     (λ c. omega arith)
     (λ c κs.
-    let d = c .before .before .before .before .before in
+    let r = c .before .before in
+    let d = r .before .before .before in
     omega (arith, d .loop .inv .1 .size, d .before .before .before .pre .1))
     (λ c. omega arith)
     (λ c. omega arith)

@@ -38,6 +38,7 @@ folded-spec =
     (λ c. omega arith)
     (λ c. omega arith)
     (λ c.
-    let d = c .before .before .before .before .before .before in
-    fill-more (omega arith) (d .loop .inv) (fold-one _ _ _ _ (c .before .wrapping-sub-u16 .ensures) (c .wrapping-add-u16 .ensures)))
+    let difference = c .before in
+    let turn = difference .before .before .before .before in
+    fill-more (omega arith) (turn .before .loop .inv) (fold-one _ _ _ _ (difference .wrapping-sub-u16 .ensures) (c .wrapping-add-u16 .ensures)))
     (λ c. fill-all (omega arith) (c .before .loop .inv)))

@@ -25,7 +25,7 @@ lay-chunk-spec =
     (λ c. omega arith)
     (λ c. omega arith)
     (λ c. omega arith)
-    (λ c κs. omega (arith, c .before .before .before .before .before .pre))
+    (λ c κs. let d = c .before in omega (arith, d .before .before .before .before .pre))
     (λ c. omega arith)
     (λ c. omega arith)
     (λ c. omega arith)
@@ -46,7 +46,7 @@ lay-chunk-spec =
       laid-more (d .loop .inv .1) (r .chunk .ensures) (u .put .ensures) (λ t h. row t (l .loop-test .taken) (s .pre .chunks) h),
     ))
     (λ c. omega arith)
-    (λ c κs. omega (arith, c .before .before .before .before .before .pre))
+    (λ c κs. let d = c .before in omega (arith, d .before .before .before .before .pre))
     (λ c. omega arith)
     (λ c. omega arith)
     (λ c. omega arith)
@@ -55,8 +55,10 @@ lay-chunk-spec =
     omega (arith, c .before .before .chunk2 .ensures .size, d .loop .inv .1 .size, d .before .before .before .before .pre .left))
     (λ c. omega arith)
     (λ c.
-    let d = c .before .before .before .before .before .before .before in
+    let u = c .before .before in
+    let r = u .before .before .before in
+    let d = r .before .before in
     let x = d .before .before .before .before .args in
     let e : d .loop .i ≡ x .rows = omega arith in
-    laid-more (rw e at (d .loop .inv .1)) (c .before .before .before .before .before .chunk2 .ensures) (c .before .before .put2 .ensures)
+    laid-more (rw e at (d .loop .inv .1)) (r .chunk2 .ensures) (u .put2 .ensures)
     (λ t h. ap (λ (l : List ℕ). getD l (16 * x .g + t) 0) (sym (source-last (x .rows) (x .a .now) (x .b .now))))))
