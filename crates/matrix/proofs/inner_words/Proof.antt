@@ -35,7 +35,8 @@ rows-add-requires c κs =
 loop-again : tie.Need-loop-again Inv-loop μ-loop
 loop-again c =
     let adds = c .before .before .before in
-    let k = adds .before .before .before .before .before in
+    let lent = adds .before in
+    let k = lent .before .before .before .before in
     let a = start-of k .args in (
       inner-next (a .a .now) (a .s .now) (k .before .loop .j) (omega (arith, start-of k .pre .first, k .loop-test .taken)) (k .before .loop .inv .0)
           (adds .rows-add .ensures),
@@ -70,6 +71,6 @@ inner-words-spec =
     loop-again
     (λ c. search needs)
     (λ c.
-    let t = c .before .loop in
-    let e : t .j ≡ c .before .before .before .before .before .args .l = omega arith in
-    rw e at (t .inv .0)))
+    let d = c .before in
+    let e : d .loop .j ≡ d .before .before .before .before .args .l = omega arith in
+    rw e at (d .loop .inv .0)))

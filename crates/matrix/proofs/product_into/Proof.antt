@@ -30,13 +30,13 @@ Inv-loop transposed l matrix s cut₀ work₀ out₀ i₀ cut work out i =
 abbrev μ-loop : tie.MeasureT-loop
 μ-loop transposed l matrix s cut₀ work₀ out₀ i₀ cut work out i = l - i
 
-abbrev start-of : tie.At-loop Inv-loop μ-loop → tie.Start Inv-loop μ-loop
-start-of c = c .before .before .before .before .before .before
+abbrev start-of : tie.After-slice-known3 Inv-loop μ-loop → tie.Start Inv-loop μ-loop
+start-of c = c .before .before .before .before .before
 
 loop-holds : tie.Need-loop-holds Inv-loop μ-loop
 unfolding blocks
 loop-holds c =
-    let s = c .before .before .before .before .before in
+    let s = start-of c in
     record {
       within = omega arith;
       cutLong = refl;
@@ -52,14 +52,14 @@ out-long s = zeros-long _ (s .pre .zeros)
 -- the next rows have their places
 places : (c : tie.After-some-rows Inv-loop μ-loop) →
     let t = c .before .before in
-    256 * t .loop .i + 256 * c .some-rows .result ≤ length (start-of t .args .out .now)
-places c = omega (arith, c .some-rows .ensures .2, c .before .loop-test .taken, out-long (start-of (c .before .before)))
+    256 * t .loop .i + 256 * c .some-rows .result ≤ length (start-of (t .before) .args .out .now)
+places c = omega (arith, c .some-rows .ensures .2, c .before .loop-test .taken, out-long (start-of (c .before .before .before)))
 
 rows-into-requires : tie.Need-rows-into-requires Inv-loop μ-loop
 rows-into-requires c κs =
     let k = c .before .before .before in
     let t = k .before .before .loop .inv in
-    let s = start-of (k .before .before) in
+    let s = start-of (k .before .before .before) in
     let few = k .some-rows .ensures in
     record {
       some = few .0;
@@ -76,10 +76,11 @@ rows-into-requires c κs =
 
 loop-again : tie.Need-loop-again Inv-loop μ-loop
 loop-again c =
-    let made = c .before .before .before .before .before .before in
+    let worked = c .before .before .before in
+    let made = worked .before .before .before in
     let k = made .before .before .before .before in
     let t = k .before .before .loop in
-    let s = start-of (k .before .before) in
+    let s = start-of (k .before .before .before) in
     let a = s .args in
     let row = matrixRow (a .l) (side (a .transposed) (a .l) (unpacked 13 (a .matrix .now))) (nat (a .s .now)) in
     let n = k .some-rows .result in
@@ -103,7 +104,7 @@ returns : tie.Need-returns Inv-loop μ-loop
 unfolding matrixVector
 returns c =
     let t = c .before .loop in
-    let s = start-of (c .before) in
+    let s = start-of (c .before .before) in
     let e : t .i ≡ s .args .l = omega (arith, t .inv .within, c .loop-test .left) in
     rw e at (prefix-all (t .inv .front) (omega (arith, out-long s)))
 

@@ -10,10 +10,13 @@ use Rattle.matrix.proofs.rows_into.Tie as tie
 abbrev start-of : tie.After-stride2 → tie.Start
 start-of c = c .before .before .before .before .before .before .before
 
+abbrev sums-of : tie.After-reduce → tie.After-sums-into
+sums-of c = c .before .before .before .before .before .before .before .before
+
 returns : tie.Need-returns
 returns c =
     let reduced = c .before .before in
-    let summed = reduced .before .before .before .before .before .before .before .before in
+    let summed = sums-of reduced in
     let strides = summed .before .before .before .before in
     let a = start-of strides .args in
     rows-values (a .transposed) (a .l) (strides .before .stride .ensures) (strides .stride2 .ensures) (a .first) (a .rows)

@@ -29,30 +29,30 @@ Inv-loop width rows l bytes start row column s cut₀ work₀ out₀ j₀ cut wo
 abbrev μ-loop : tie.MeasureT-loop
 μ-loop width rows l bytes start row column s cut₀ work₀ out₀ j₀ cut work out j = l - j
 
-abbrev start-of : tie.In-loop Inv-loop μ-loop → tie.Start Inv-loop μ-loop
-start-of c = c .before .before .before .before .before .before .before
+abbrev start-of : tie.After-slice-known3 Inv-loop μ-loop → tie.Start Inv-loop μ-loop
+start-of c = c .before .before .before .before .before
 
 -- the last polynomial of the column is one of the packed ones
 last : (c : tie.In-loop Inv-loop μ-loop) →
-    let s = start-of c in
+    let s = start-of (c .before .before) in
     s .args .start + s .args .column * c .before .loop .j + s .args .row * (s .args .rows - 1) < s .pre .count
 last c =
-    let s = start-of c in
+    let s = start-of (c .before .before) in
     let few : c .before .loop .j ≤ s .args .l - 1 = omega (arith, c .loop-test .taken) in
     omega (arith, s .pre .last, mul-le-mul-left (s .args .column) few)
 
 -- and so the column's place fits
 fits : (c : tie.In-loop Inv-loop μ-loop) →
-    let a = start-of c .args in
+    let a = start-of (c .before .before) .args in
     a .start + a .column * c .before .loop .j ≤ length (a .bytes .now)
 fits c =
-    let s = start-of c in
+    let s = start-of (c .before .before) in
     omega (arith, last c, count-fits (s .args .width) (s .pre .count) (s .pre .least) (s .pre .whole))
 
 cut-into-requires : tie.Need-cut-into-requires Inv-loop μ-loop
 cut-into-requires c κs =
     let k = c .before in
-    let lengths = start-of k .pre in
+    let lengths = start-of (k .before .before) .pre in
     record {
       least = lengths .least;
       most = lengths .most;
@@ -64,10 +64,11 @@ cut-into-requires c κs =
 
 rows-add-requires : tie.Need-rows-add-requires Inv-loop μ-loop
 rows-add-requires c κs =
-    let cuts = c .before .before .before .before .before .before in
+    let held = c .before .before .before .before in
+    let cuts = held .before .before in
     let k = cuts .before .before in
     let t = k .before .loop .inv in
-    let lengths = start-of k .pre in
+    let lengths = start-of (k .before .before) .pre in
     record {
       most = lengths .few;
       factors = omega (arith, lengths .cutLong, t .cutLong, cuts .cut-into .kept .1 .1 .1 .1 .1 .0);
@@ -79,10 +80,11 @@ rows-add-requires c κs =
 loop-again : tie.Need-loop-again Inv-loop μ-loop
 loop-again c =
     let adds = c .before .before .before .before in
-    let cuts = adds .before .before .before .before .before .before .before in
+    let held = adds .before .before .before .before in
+    let cuts = held .before .before .before in
     let k = cuts .before .before in
     let t = k .before .loop in
-    let s = start-of k in
+    let s = start-of (k .before .before) in
     let a = s .args in
     record {
       within = omega (arith, k .loop-test .taken);
@@ -108,7 +110,7 @@ sums-into-spec =
       cutLong = refl;
       workLong = refl;
       outLong = refl;
-      sum = c .before .before .before .before .before .pre .zeros ∙ sums-none _ _ _;
+      sum = start-of c .pre .zeros ∙ sums-none _ _ _;
     })
     (λ c. search needs)
     (λ c. search needs)
@@ -128,6 +130,6 @@ sums-into-spec =
     (λ c. search needs)
     (λ c.
     let t = c .before .loop in
-    let s = c .before .before .before .before .before .before .before in
+    let s = start-of (c .before .before) in
     let e : t .j ≡ s .args .l = omega (arith, t .inv .within, c .loop-test .left) in
     rw e at (t .inv .sum)))
