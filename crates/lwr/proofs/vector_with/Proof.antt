@@ -45,7 +45,8 @@ loop-holds c =
 
 rows-with-requires : tie.Need-rows-with-requires Inv-loop μ-loop
 rows-with-requires c κs =
-    let k = c .before .before .before .before .before in
+    let lent = c .before .before .before in
+    let k = lent .before .before in
     let t = k .before .before .loop .inv in
     let matrix = matrix-of (k .before .before) in
     let s = start-of matrix in
@@ -66,8 +67,10 @@ rows-with-requires c κs =
 
 loop-again : tie.Need-loop-again Inv-loop μ-loop
 loop-again c =
-    let made = c .before .before .before .before .before .before .before in
-    let k = made .before .before .before .before .before .before in
+    let worked = c .before .before .before .before in
+    let made = worked .before .before .before in
+    let lent = made .before .before .before .before in
+    let k = lent .before .before in
     let t = k .before .before .loop in
     let matrix = matrix-of (k .before .before) in
     let s = start-of matrix in
