@@ -11,7 +11,7 @@ use table::WEIGHTS;
 
 mod table;
 
-// Weighs bytes by the table.
+// Weighs bytes by the table. It is bound once: read inside the loop it would be laid on the stack in each turn.
 pub fn weigh_bytes(bytes: &[u8], output: &mut [i8])
     requires { ⌜ length (now output) ≡ length (now bytes) ⌝ }
     ensures { λ _. ⌜ now (output .exit) ≡ map (weighed 4) (now (bytes .entry)) ⌝ }

@@ -152,7 +152,8 @@ pub fn part(bytes: &[u8], ends: Ends, k: usize) -> &[u8]
     &bytes[0..0]
 }
 
-// Turns the bytes of the lists and of the outputs into the buffers that a call is lent.
+// Turns the bytes of the lists and of the outputs into the buffers that a call is lent. Each has its own, since two parts of one buffer
+// cannot be lent for writing at once.
 pub fn fill(
     ends: Ends,
     bytes: &[u8],

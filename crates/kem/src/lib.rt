@@ -29,6 +29,7 @@ fn encaps_with(
 }
 
 // Decrypts a ciphertext and encrypts the message again, with the stored hash and public key: the ciphertext made again, and k and r.
+// The secret's scratch serves decryption and then encryption; both write all of it.
 fn again_with(
     p: Params,
     secret_key: &[u8],

@@ -16,7 +16,8 @@ struct State {
     open: bool,
 }
 
-// Answers the line of the first `kept` bytes. Where a write fails, says so and that there is no more to do.
+// Answers the line of the first `kept` bytes. Where a write fails, says so right after it, while `errno` is that call's, and that there is
+// no more to do.
 fn answer(line: &[u8], kept: usize) -> bool
     requires { ⌜ kept ≤ length (now line) ⌝ }
 {
