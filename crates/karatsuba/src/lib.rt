@@ -10,6 +10,12 @@ ghost use Rattle.karatsuba.specs.Requires.{LayScratch, ChunkScratch, Fol
 use karatsuba_base::put;
 use std::num;
 
+// The scratch that `rows_add` requires for one row: 1256 places a row, and 864.
+pub const ONE_ROW_WORK: usize = 1256 + 864;
+
+// The same for three rows.
+pub const THREE_ROWS_WORK: usize = 3 * 1256 + 864;
+
 // A chunk: sixteen coefficients from place s on, behind 8 zeros.
 fn chunk(f: &[u16], s: usize) -> [u16; 24]
     requires { ⌜ s + 16 ≤ length (now f) ⌝ }
@@ -124,7 +130,7 @@ pub fn poly_mul_karatsuba(modulus: u32, a: &[u16], b: &[u16], product: &mut [u16
     if r != 0 {
         return r;
     }
-    let mut work = [0u16; 2120];
+    let mut work = [0u16; ONE_ROW_WORK];
     clear(product);
     rows_add(1, a, b, &mut work, product);
     ring::reduce(modulus as u16, product);

@@ -2,7 +2,7 @@
 use Prim.Native.Nat.{ℕ, _*_, _≤_}
 use mathlib.Core.List.{List}
 use mathlib.Core.Path.{_≡_}
-use Rattle.matrix.specs.Requires.{RowsScratch}
+use Rattle.matrix.specs.Requires.{RowsScratch, threeRows, threeRowsWork}
 
 -- rows of a product, gathered in zeros and packed to their places among those of all l
 pub record RoundedRowsScratch (l matrix secret first rows cut work : ℕ) (exact : List ℕ) (out : ℕ) : Type 0 where
@@ -18,8 +18,8 @@ pub record VectorLengths (l secret out : ℕ) : Type 0 where
 pub record VectorScratch (l secret matrix cut work out : ℕ) : Type 0 where
   pub fits : VectorLengths l secret out
   pub matrixLong : matrix ≡ 416 * l * l
-  pub cutLong : 768 ≤ cut
-  pub workLong : 4632 ≤ work
+  pub cutLong : threeRows ≤ cut
+  pub workLong : threeRowsWork ≤ work
 
 -- an inner product of a packed vector and a secret
 pub record InnerLengths (l vector secret : ℕ) : Type 0 where

@@ -60,7 +60,7 @@ fn vector_with(
     while i < l {
         let n = matrix::some_rows(l - i);
         let e = 256 * n;
-        let mut exact = [0u16; 768];
+        let mut exact = [0u16; matrix::THREE_ROWS];
         rows_with(
             transposed,
             l,
@@ -83,9 +83,9 @@ pub fn vector_into(transposed: bool, l: usize, seed: &[u8], secret: &[u16], out:
     ensures { λ _. ⌜ now (out .exit)
         ≡ placed 0 (packed 10 (roundedVector transposed l (now (seed .entry)) (nat (now (secret .entry))))) (now (out .entry)) ⌝ }
 {
-    let mut matrix = [0u8; 6656];
-    let mut cut = [0u16; 768];
-    let mut work = [0u16; 4632];
+    let mut matrix = [0u8; sampling::MATRIX_BYTES];
+    let mut cut = [0u16; matrix::THREE_ROWS];
+    let mut work = [0u16; matrix::THREE_ROWS_WORK];
     let n = 416 * l * l;
     vector_with(
         transposed,
@@ -105,7 +105,7 @@ pub fn inner(l: usize, packed: &[u8], secret: &[u16]) -> [u16; 256]
     ensures { λ r. ⌜ r ≡ innerMod 1024 l (unpacked 10 (now (packed .entry))) (nat (now (secret .entry))) ⌝ }
 {
     let mut vector = [0u16; 1024];
-    let mut work = [0u16; 2120];
+    let mut work = [0u16; matrix::ONE_ROW_WORK];
     let n = 256 * l;
     matrix::inner(l, packed, secret, &mut vector[0..n], &mut work)
 }
@@ -118,9 +118,9 @@ pub fn both_into(l: usize, seed: &[u8], vector: &[u8], secret: &[u16], out: &mut
         ≡ placed 0 (packed 10 (roundedVector false l (now (seed .entry)) (nat (now (secret .entry))))) (now (out .entry)))
         × (r ≡ innerMod 1024 l (unpacked 10 (now (vector .entry))) (nat (now (secret .entry)))) ⌝ }
 {
-    let mut matrix = [0u8; 6656];
+    let mut matrix = [0u8; sampling::MATRIX_BYTES];
     let mut cut = [0u16; 1024];
-    let mut work = [0u16; 4632];
+    let mut work = [0u16; matrix::THREE_ROWS_WORK];
     let n = 416 * l * l;
     let e = 256 * l;
     vector_with(

@@ -129,7 +129,7 @@ pub fn norm_of(p: Params, public_key: &[u8], secret_seed: &[u8], coins: &[u8]) -
         (entry (p .l) (matrix (p .l) (drop (320 * p .l) (now («public_key» .entry)))))
         (poly (secret (p .l) (p .mu) (now («secret_seed» .entry)))) (poly (secret (p .l) (p .mu) (now (coins .entry))))) ⌝ }
 {
-    let mut matrix = [0u8; 6656];
+    let mut matrix = [0u8; sampling::MATRIX_BYTES];
     let mut s = [0i8; 1024];
     let mut t = [0i8; 1024];
     let m = 416 * p.l * p.l;

@@ -5,7 +5,7 @@ use mathlib.Core.Path.{_≡_}
 use lib.IntN.{ℤ, natAbs}
 use lib.ListN.{length}
 use Rattle.algebra.specs.Ring.{at}
-use Rattle.matrix.specs.Requires.{ProductScratch}
+use Rattle.matrix.specs.Requires.{ProductScratch, threeRows, threeRowsWork}
 
 -- `product_with`: a packed matrix and two secrets of l polynomials
 pub record ProductWithScratch (l A s t cut work : ℕ) : Type 0 where
@@ -13,8 +13,8 @@ pub record ProductWithScratch (l A s t cut work : ℕ) : Type 0 where
   pub matrixLong : A ≡ 416 * (l * l)
   pub sLong : s ≡ 256 * l
   pub tLong : t ≡ 256 * l
-  pub cutLong : 768 ≤ cut
-  pub workLong : 4632 ≤ work
+  pub cutLong : threeRows ≤ cut
+  pub workLong : threeRowsWork ≤ work
 
 -- `product_in`: the same, and zeros for the product
 pub record ProductInScratch (l A s t cut work : ℕ) (exact : List ℕ) : Type 0 where
@@ -40,5 +40,5 @@ pub record NoiseScratch (l A : ℕ) (s t : List ℤ) (sWords tWords cut work : �
   pub fits : NoiseLengths l A s t
   pub sWordsLong : sWords ≡ 256 * l
   pub tWordsLong : tWords ≡ 256 * l
-  pub cutLong : 768 ≤ cut
-  pub workLong : 4632 ≤ work
+  pub cutLong : threeRows ≤ cut
+  pub workLong : threeRowsWork ≤ work

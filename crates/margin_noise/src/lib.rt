@@ -137,8 +137,8 @@ pub fn noise_norm(l: usize, matrix: &[u8], s: &[i8], t: &[i8]) -> usize
 {
     let mut s_words = [0u16; 1024];
     let mut t_words = [0u16; 1024];
-    let mut cut = [0u16; 768];
-    let mut work = [0u16; 4632];
+    let mut cut = [0u16; matrix::THREE_ROWS];
+    let mut work = [0u16; matrix::THREE_ROWS_WORK];
     let n = 256 * l;
     noise_norm_with(
         l,

@@ -4,6 +4,16 @@ use mathlib.Core.List.{List}
 use mathlib.Core.Path.{_≡_}
 use lib.ListN.{replicate}
 
+-- the scratch for one row at a time and for three, 1256 places a row and 864 more; and three polynomials
+abbrev pub oneRowWork : ℕ
+oneRowWork = 2120
+
+abbrev pub threeRowsWork : ℕ
+threeRowsWork = 4632
+
+abbrev pub threeRows : ℕ
+threeRows = 768
+
 -- what `cut_into` requires: packed polynomials of w bits a coefficient, 1 to 16; the last row among them, and a place for each
 pub record CutLengths (w bytes start step rows out : ℕ) : Type 0 where
   pub least : 1 ≤ w
@@ -32,7 +42,7 @@ pub record SumsScratch (w rows l bytes start row column s cut work : ℕ) (out :
 pub record WordsScratch (l a s work : ℕ) : Type 0 where
   pub first : a ≡ 256 * l
   pub second : s ≡ 256 * l
-  pub scratch : 2120 ≤ work
+  pub scratch : oneRowWork ≤ work
 
 -- what `inner` requires: a packed vector and another; a buffer for the first one; scratch
 pub record InnerScratch (l vector s words work : ℕ) : Type 0 where
@@ -48,13 +58,13 @@ pub record RowsScratch (l A s first rows cut work : ℕ) (out : List ℕ) : Type
   pub matrix : A ≡ 416 * (l * l)
   pub vector : s ≡ 256 * l
   pub cutLong : cut ≡ 256 * rows
-  pub scratch : 4632 ≤ work
+  pub scratch : threeRowsWork ≤ work
   pub zeros : out ≡ replicate (256 * rows) 0
 
 -- what `product_into` requires: a matrix and a vector; a buffer for three polynomials; scratch for three rows; zeros for all rows
 pub record ProductScratch (l A s cut work : ℕ) (out : List ℕ) : Type 0 where
   pub matrix : A ≡ 416 * (l * l)
   pub vector : s ≡ 256 * l
-  pub cutLong : 768 ≤ cut
-  pub scratch : 4632 ≤ work
+  pub cutLong : threeRows ≤ cut
+  pub scratch : threeRowsWork ≤ work
   pub zeros : out ≡ replicate (256 * l) 0

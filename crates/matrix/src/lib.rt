@@ -11,6 +11,15 @@ ghost use Rattle.matrix.specs.Ensures.{sums};
 use karatsuba::rows_add;
 use ring::reduce;
 
+// The scratch of an inner product, one row at a time.
+pub const ONE_ROW_WORK: usize = karatsuba::ONE_ROW_WORK;
+
+// The scratch for three rows at a time.
+pub const THREE_ROWS_WORK: usize = karatsuba::THREE_ROWS_WORK;
+
+// The buffer for the three polynomials that are then multiplied at once.
+pub const THREE_ROWS: usize = 3 * 256;
+
 // For each i below `rows` the polynomial at place `start` + `step` i among packed ones.
 fn cut_into(width: u32, bytes: &[u8], start: usize, step: usize, rows: usize, out: &mut [u16])
     requires { ⌜ CutLengths width (length (now bytes)) start step rows (length (now out)) ⌝ }

@@ -12,6 +12,9 @@ ghost use Rattle.sampling.specs.Requires.{MatrixLengths, MatrixScratch, 
 use questions::ask;
 use sets::set_params;
 
+// The bytes of the largest packed matrix, of four rows and columns.
+pub const MATRIX_BYTES: usize = 416 * 4 * 4;
+
 // The matrix of l rows of l polynomials, packed in 13 bits a coefficient, as SHAKE-128 gives it.
 pub fn packed_matrix_into(l: usize, seed: &[u8], bytes: &mut [u8])
     requires { ⌜ length (now bytes) ≡ 416 * l * l ⌝ }
@@ -34,7 +37,7 @@ fn matrix_into(l: usize, seed: &[u8], output: &mut [u16])
     requires { ⌜ MatrixLengths l (length (now output)) ⌝ }
     ensures { λ _. ⌜ now (output .exit) ≡ matrix l (now (seed .entry)) ⌝ }
 {
-    let mut bytes = [0u8; 6656];
+    let mut bytes = [0u8; MATRIX_BYTES];
     let n = 416 * l * l;
     matrix_with(l, seed, &mut bytes[0..n], output);
 }

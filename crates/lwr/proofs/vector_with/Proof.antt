@@ -13,6 +13,7 @@ use Rattle.packing.specs.Packing.{packed, unpacked}
 use Rattle.packing_vector.specs.Laws.Places.{packed-none}
 use Rattle.rounding.specs.Rounding.{round}
 use Rattle.algebra.specs.Vectors.{matrixRow, side}
+use Rattle.matrix.specs.Requires.{threeRows}
 use Rattle.matrix.specs.Laws.Zeros.{zeros-first}
 use Rattle.lwr.specs.Laws.Lwr.{rows-more, vector-whole}
 use Rattle.lwr.proofs.vector_with.Statement.{statement}
@@ -60,7 +61,7 @@ rows-with-requires c κs =
         vector = s .pre .fits .secretLong;
         cutLong = simp (length-take, length-drop) (omega (arith, few .1, s .pre .cutLong, t .cutLong));
         scratch = omega (arith, s .pre .workLong, t .workLong);
-        zeros = zeros-first (256 * k .some-rows .result) 768 (omega (arith, few .1));
+        zeros = zeros-first (256 * k .some-rows .result) threeRows (omega (arith, few .1));
       };
       outLong = omega (arith, s .pre .fits .outLong, t .outLong);
     }
