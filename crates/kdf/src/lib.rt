@@ -13,7 +13,7 @@ pub fn key_and_coins(message: &[u8; 32], hash: &[u8]) -> [u8; 64]
     ensures { λ r. ⌜ r ≡ sha3-512 (now (message .entry) ++ now (hash .entry)) ⌝ }
 {
     let mut input = [0u8; 64];
-    lists::join(message, hash, &mut input);
+    byte_strings::join(message, hash, &mut input);
     sha3::hash512(&input)
 }
 
@@ -24,7 +24,7 @@ pub fn secret_under(key: &[u8], ciphertext: &[u8]) -> [u8; 32]
 {
     let hash = sha3::hash256(ciphertext);
     let mut input = [0u8; 64];
-    lists::join(key, &hash, &mut input);
+    byte_strings::join(key, &hash, &mut input);
     sha3::hash256(&input)
 }
 
@@ -34,8 +34,8 @@ pub fn chosen_secret(k: &[u8], z: &[u8], again: &[u8], ciphertext: &[u8]) -> [u8
     ensures { λ r. ⌜ r ≡
         secretUnder (cond (same (now (again .entry)) (now (ciphertext .entry))) (now (k .entry)) (now (z .entry))) (now (ciphertext .entry)) ⌝ }
 {
-    let different = lists::difference(again, ciphertext);
+    let different = byte_strings::difference(again, ciphertext);
     let mut key = [0u8; 32];
-    lists::choose(different, k, z, &mut key);
+    byte_strings::choose(different, k, z, &mut key);
     secret_under(&key, ciphertext)
 }

@@ -25,7 +25,7 @@ fn encaps_with(
     let kr = kdf::key_and_coins(&message, &hash);
     pke::encrypt_with(p, public_key, &message, &kr[32..64], secret, ciphertext);
     let shared = kdf::secret_under(&kr[0..32], ciphertext);
-    lists::copy_at(&shared, 0, output);
+    byte_strings::copy_at(&shared, 0, output);
 }
 
 // Decrypts a ciphertext and encrypts the message again, with the stored hash and public key: the ciphertext made again, and k and r.
@@ -66,7 +66,7 @@ fn decaps_with(
     let kr = again_with(p, secret_key, ciphertext, secret, again);
     let z = 416 * p.l + p.pk + 32;
     let chosen = kdf::chosen_secret(&kr[0..32], &secret_key[z..], again, ciphertext);
-    lists::copy_at(&chosen, 0, output);
+    byte_strings::copy_at(&chosen, 0, output);
 }
 
 // Encapsulation: Q1, Q3, Q4, Q9.

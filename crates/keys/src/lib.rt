@@ -27,7 +27,7 @@ fn public_key_into(l: usize, matrix_seed: &[u8], secret: &[u16], public_key: &mu
     sha3::shake128_into(matrix_seed, &mut stored);
     let e = 320 * l;
     lwr::vector_into(true, l, &stored, secret, public_key);
-    lists::copy_at(&stored, e, public_key);
+    byte_strings::copy_at(&stored, e, public_key);
 }
 
 // The secret key: the plain secret, of 13 bits a coefficient, the public key, its hash and z.
@@ -40,10 +40,10 @@ fn secret_key_into(l: usize, secret: &[u16], public_key: &[u8], z: &[u8], secret
     let h = e + public_key.len();
     let f = h + 32;
     packing_vector::pack_vector_at(13, l, secret, 0, secret_key);
-    lists::copy_at(public_key, e, secret_key);
+    byte_strings::copy_at(public_key, e, secret_key);
     let hash = sha3::hash256(public_key);
-    lists::copy_at(&hash, h, secret_key);
-    lists::copy_at(z, f, secret_key);
+    byte_strings::copy_at(&hash, h, secret_key);
+    byte_strings::copy_at(z, f, secret_key);
 }
 
 // Makes keys at arguments of the set's lengths; the caller lends scratch for the secret.

@@ -22,7 +22,7 @@ fn text_into(part: &[u8], at: usize, text: &mut [u8]) -> usize
     requires { ⌜ at + length (now part) ≤ length (now text) ⌝ }
     ensures { λ r. ⌜ Appended (now (text .entry)) at (now (part .entry)) (now (text .exit)) r ⌝ }
 {
-    lists::copy_at(part, at, text);
+    byte_strings::copy_at(part, at, text);
     at + part.len()
 }
 

@@ -46,7 +46,7 @@ pub fn pack_into(width: u32, coefficients: &[u16], bytes: &mut [u8])
         held += width;
         i += 1;
         if held >= 32 {
-            lists::store32(acc, j, bytes);
+            little_endian::store32(acc, j, bytes);
             acc >>= 32;
             held -= 32;
             j += 4;
@@ -65,7 +65,7 @@ pub fn unpack_into(width: u32, bytes: &[u8], coefficients: &mut [u16])
     let mut j: usize = 0;
     while j < coefficients.len() {
         if held < width {
-            acc = append_bits(acc, held, lists::load32(bytes, i));
+            acc = append_bits(acc, held, little_endian::load32(bytes, i));
             held += 32;
             i += 4;
         }

@@ -49,9 +49,9 @@ fn number_at(record: &[u8], at: usize, n: usize) -> u64
     }
     let end = at + n;
     if end <= record.len() {
-        return lists::load(&record[at..end]);
+        return little_endian::load(&record[at..end]);
     }
-    lists::load(&record[at..])
+    little_endian::load(&record[at..])
 }
 
 // The door in a record, short or wide, where its bit stands; the time and the set from their places on.
@@ -152,6 +152,6 @@ pub fn read_record(record: &[u8], ciphertext: &mut [u8]) -> Read
         return Read::Refused(r);
     }
     let a = head_length(map);
-    lists::copy_at(&record[a..], 0, ciphertext);
+    byte_strings::copy_at(&record[a..], 0, ciphertext);
     Read::Entry(head)
 }

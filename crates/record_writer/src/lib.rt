@@ -81,11 +81,11 @@ fn write_into(map: u8, door: Part, time: Part, set: u32, ciphertext: &[u8], reco
 {
     let t = 1 + door.size;
     let s = t + time.size;
-    lists::store_at(map as u64, 0, 1, record);
-    lists::store_at(door.number, 1, door.size, record);
-    lists::store_at(time.number, t, time.size, record);
-    lists::store_at(set as u64, s, 1, record);
-    lists::copy_at(ciphertext, s + 1, record);
+    little_endian::store_at(map as u64, 0, 1, record);
+    little_endian::store_at(door.number, 1, door.size, record);
+    little_endian::store_at(time.number, t, time.size, record);
+    little_endian::store_at(set as u64, s, 1, record);
+    byte_strings::copy_at(ciphertext, s + 1, record);
 }
 
 // Writes the record of an entry: Q1, Q6, Q9. The map and the set have a byte each.

@@ -12,7 +12,7 @@ fn mix_at(a: [[u64; 5]; 5], block: &[u8; 200], x: usize, y: usize) -> u64
     requires { ⌜ (x < 5) × (y < 5) ⌝ }
     ensures { λ r. ⌜ r ≡ mixAt a (now (block .entry)) x y ⌝ }
 {
-    a[x][y] ^ lists::load64(block, 8 * (x + 5 * y))
+    a[x][y] ^ little_endian::load64(block, 8 * (x + 5 * y))
 }
 
 fn mix_sheet(a: [[u64; 5]; 5], block: &[u8; 200], x: usize) -> [u64; 5]
@@ -47,7 +47,7 @@ fn block_of(s: &[u8]) -> [u8; 200]
     ensures { λ b. ⌜ b ≡ now (s .entry) ++ replicate (200 - length (now (s .entry))) 0 ⌝ }
 {
     let mut block = [0u8; 200];
-    lists::copy_at(s, 0, &mut block);
+    byte_strings::copy_at(s, 0, &mut block);
     block
 }
 
@@ -91,10 +91,10 @@ fn state_into(a: [[u64; 5]; 5], output: &mut [u8])
 {
     let mut k = 0;
     while k < output.len() / 8 {
-        lists::store(a[k % 5][k / 5], &mut output[8 * k..8 * k + 8]);
+        little_endian::store(a[k % 5][k / 5], &mut output[8 * k..8 * k + 8]);
         k += 1;
     }
-    lists::store(a[k % 5][k / 5], &mut output[8 * k..]);
+    little_endian::store(a[k % 5][k / 5], &mut output[8 * k..]);
 }
 
 fn least(x: usize, y: usize) -> usize

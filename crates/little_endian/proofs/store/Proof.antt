@@ -1,14 +1,14 @@
--- `lists::store` meets its contract: after i turns the first i bytes are the number's.
+-- `little_endian::store` meets its contract: after i turns the first i bytes are the number's.
 use Prim.Native.Nat.{_-_}
 use mathlib.Core.Path.{refl, sym, _∙_}
 use native.Mathlib.Omega.{arith}
 use borrow.Author.Needs.{needs}
 use lib.ListN.{length}
 use Rattle.lists.specs.Numbers.{digit}
 use Rattle.lists.specs.Laws.Fill.{Filled, fill-none, fill-more, fill-all}
 use Rattle.lists.specs.Laws.Numbers.{digits-from, pow-mul}
-use Rattle.lists.proofs.store.Statement.{statement}
-use Rattle.lists.proofs.store.Tie as tie
+use Rattle.little_endian.proofs.store.Statement.{statement}
+use Rattle.little_endian.proofs.store.Tie as tie
 
 pub store-spec : {M : Type 1} → statement M
 store-spec =

@@ -1,4 +1,4 @@
--- `lists::load32` meets its contract: the four bytes are the digits of the number.
+-- `little_endian::load32` meets its contract: the four bytes are the digits of the number.
 use borrow.Author.Needs.{needs}
 use Prim.Native.Nat.{ℕ, suc, _+_, _*_, _≤_}
 use mathlib.Core.List.{List}
@@ -6,10 +6,10 @@ use mathlib.Core.Path.{_≡_, sym, _∙_}
 use native.Mathlib.Omega.{arith}
 use native.Mathlib.Numerals.{add-one, add-two, add-three}
 use lib.ListN.{length, getD, take, drop}
 use Rattle.lists.specs.Numbers.{number}
 use Rattle.lists.specs.Laws.Numbers.{number-next}
-use Rattle.lists.proofs.load32.Statement.{statement}
-use Rattle.lists.proofs.load32.Tie as tie
+use Rattle.little_endian.proofs.load32.Statement.{statement}
+use Rattle.little_endian.proofs.load32.Tie as tie
 
 abbrev start-of : tie.After-joined → tie.Start
 start-of c = c .before .before .before .before .before .before

@@ -1,15 +1,15 @@
--- `lists::store_at` meets its contract: the part that is lent has n bytes, and is put back at its place.
+-- `little_endian::store_at` meets its contract: the part that is lent has n bytes, and is put back at its place.
 use borrow.Author.Needs.{needs}
 use Prim.Native.Nat.{ℕ, _+_, _-_}
 use mathlib.Core.Path.{_≡_, ap, _∙_}
 use native.Mathlib.Omega.{arith}
 use lib.ListN.{length}
 use borrow.Rule.Slice.PartMut.{midOf, mid-len}
 use Rattle.lists.specs.Numbers.{digits}
 use Rattle.lists.specs.Laws.Numbers.{length-digits}
 use Rattle.lists.specs.Laws.Parts.{put-placed}
-use Rattle.lists.proofs.store_at.Statement.{statement}
-use Rattle.lists.proofs.store_at.Tie as tie
+use Rattle.little_endian.proofs.store_at.Statement.{statement}
+use Rattle.little_endian.proofs.store_at.Tie as tie
 
 returns : tie.Need-returns
 returns c =

@@ -1,4 +1,4 @@
--- `lists::load` meets its contract: the bytes from i on are the number's higher digits.
+-- `little_endian::load` meets its contract: the bytes from i on are the number's higher digits.
 use Prim.Native.Nat.{ℕ, _+_, _-_, _*_, _^_, _<_, _≤_}
 use mathlib.Core.List.{List}
 use mathlib.Core.Path.{_≡_, sym, ap}
@@ -7,10 +7,10 @@ use native.Mathlib.Omega.{arith}
 use borrow.Author.Needs.{needs}
 use lib.ListN.{length, getD, drop, length-drop}
 use lib.Seq.{drop-length}
 use Rattle.lists.specs.Numbers.{number}
 use Rattle.lists.specs.Laws.Numbers.{below-drop, number-more, number-lt}
-use Rattle.lists.proofs.load.Statement.{statement}
-use Rattle.lists.proofs.load.Tie as tie
+use Rattle.little_endian.proofs.load.Statement.{statement}
+use Rattle.little_endian.proofs.load.Tie as tie
 
 abbrev Inv-loop : tie.InvT-loop
 Inv-loop bytes x₀ i₀ x i = (i ≤ length bytes) × (x ≡ number 256 (drop i bytes)) × (x < 256 ^ length (drop i bytes))

@@ -1,4 +1,4 @@
--- `lists::copy_at` meets its contract: after i turns the first i bytes stand at their places.
+-- `byte_strings::copy_at` meets its contract: after i turns the first i bytes stand at their places.
 use Prim.Native.Nat.{_-_, _≤_}
 use mathlib.Core.Path.{_≡_, ap, _∙_}
 use native.Mathlib.Numerals.{add-one}
@@ -6,9 +6,9 @@ use native.Mathlib.Omega.{arith}
 use borrow.Author.Needs.{needs}
 use lib.ListN.{length}
 use lib.Seq.{paste, paste-zero, paste-suc, length-paste}
 use Rattle.lists.specs.Laws.Strings.{placed-paste}
-use Rattle.lists.proofs.copy_at.Statement.{statement}
-use Rattle.lists.proofs.copy_at.Tie as tie
+use Rattle.byte_strings.proofs.copy_at.Statement.{statement}
+use Rattle.byte_strings.proofs.copy_at.Tie as tie
 
 abbrev Inv-loop : tie.InvT-loop
 Inv-loop from at to₀ i₀ to i = (i ≤ length from) × (to ≡ paste to₀ at from i)

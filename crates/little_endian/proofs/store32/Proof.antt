@@ -1,13 +1,13 @@
--- `lists::store32` meets its contract: its four stores are those of the four digits.
+-- `little_endian::store32` meets its contract: its four stores are those of the four digits.
 use borrow.Author.Needs.{needs}
 use native.Mathlib.Omega.{arith}
 use native.Mathlib.Numerals.{add-one, add-two, add-three}
 use lib.ListN.{length-set}
 use lib.Seq.{sets-eq}
 use Rattle.lists.specs.Numbers.{digits}
 use Rattle.lists.specs.Strings.{placed}
-use Rattle.lists.proofs.store32.Statement.{statement}
-use Rattle.lists.proofs.store32.Tie as tie
+use Rattle.little_endian.proofs.store32.Statement.{statement}
+use Rattle.little_endian.proofs.store32.Tie as tie
 
 returns : tie.Need-returns
 unfolding digits placed

@@ -1,14 +1,14 @@
--- `lists::difference` meets its contract: after i bytes the bits are none just where the first i are the same.
+-- `byte_strings::difference` meets its contract: after i bytes the bits are none just where the first i are the same.
 use Prim.Native.Nat.{_≤_, _-_}
 use mathlib.Core.Path.{_≡_, refl, _∙_}
 use native.Mathlib.Omega.{arith}
 use lib.Dec.{eqb}
 use lib.ListN.{length, take}
 use borrow.Author.Needs.{needs}
 use Rattle.lists.specs.Strings.{same}
 use Rattle.lists.specs.Laws.Strings.{same-more, same-all}
-use Rattle.lists.proofs.difference.Statement.{statement}
-use Rattle.lists.proofs.difference.Tie as tie
+use Rattle.byte_strings.proofs.difference.Statement.{statement}
+use Rattle.byte_strings.proofs.difference.Tie as tie
 
 abbrev Inv-loop : tie.InvT-loop
 Inv-loop a b bits₀ i₀ bits i = (i ≤ length a) × (eqb bits 0 ≡ same (take i a) (take i b))

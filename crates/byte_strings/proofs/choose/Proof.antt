@@ -1,13 +1,13 @@
--- `lists::choose` meets its contract: after i turns the first i bytes are chosen.
+-- `byte_strings::choose` meets its contract: after i turns the first i bytes are chosen.
 use Prim.Native.Nat.{_-_}
 use mathlib.Core.Bool.{cond}
 use mathlib.Core.Path.{refl}
 use lib.Dec.{eqb}
 use lib.ListN.{length, getD}
 use borrow.Author.Needs.{needs}
 use Rattle.lists.specs.Laws.Fill.{Filled, fill-none, fill-more, fill-chosen}
-use Rattle.lists.proofs.choose.Statement.{statement}
-use Rattle.lists.proofs.choose.Tie as tie
+use Rattle.byte_strings.proofs.choose.Statement.{statement}
+use Rattle.byte_strings.proofs.choose.Tie as tie
 
 pub choose-spec : {M : Type 1} → statement M
 choose-spec =

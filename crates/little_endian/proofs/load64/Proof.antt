@@ -1,9 +1,9 @@
--- `lists::load64` meets its contract: the four higher bytes stand above the four lower ones.
+-- `little_endian::load64` meets its contract: the four higher bytes stand above the four lower ones.
 use native.Mathlib.Omega.{arith}
 use borrow.Author.Needs.{needs}
 use Rattle.lists.specs.Laws.Numbers.{number-parts}
-use Rattle.lists.proofs.load64.Statement.{statement}
-use Rattle.lists.proofs.load64.Tie as tie
+use Rattle.little_endian.proofs.load64.Statement.{statement}
+use Rattle.little_endian.proofs.load64.Tie as tie
 
 pub load64-spec : {M : Type 1} → statement M
 load64-spec =

@@ -1,8 +1,0 @@
--- `lists::join` meets its contract: the first string stands in front, and the second behind it.
-use borrow.Author.Needs.{needs}
-use Rattle.lists.specs.Laws.Strings.{placed-two}
-use Rattle.lists.proofs.join.Statement.{statement}
-use Rattle.lists.proofs.join.Tie as tie
-
-pub join-spec : {M : Type 1} → statement M
-join-spec = tie.close (tie.spec (λ c κs. search needs) (λ c κs. search needs) (λ c. search needs) (λ c. search placed-two))
