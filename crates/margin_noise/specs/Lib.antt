@@ -1,3 +1,4 @@
 pub mod Norm
 pub mod Requires
+pub mod Ensures
 pub mod Laws

@@ -1,11 +1,9 @@
 -- What the inner functions ensure.
-use Prim.Native.Nat.{ℕ, zero, suc, _*_, _<_, _≤_}
+use Prim.Native.Nat.{ℕ, _*_, _<_, _≤_}
 use mathlib.Core.List.{List}
-use mathlib.Core.Option.{Option, none, some}
 use mathlib.Core.Path.{_≡_}
-use lib.IntN.{ℤ, pos, _-ℤ_}
 use Rattle.sets.specs.declared.Params.{Params}
-use Rattle.noise.specs.Noise.{bound}
+use Rattle.margin_noise.specs.Ensures.{leastOf}
 use Rattle.margin_group.specs.Margin
 use Rattle.margin_total.specs.declared.Figures.{Figures}
 use Rattle.margin_total.specs.declared.Totals.{Totals}
@@ -16,11 +14,6 @@ pub record Measured (p : Params) (group : List ℕ) (f : Figures) : Type 0 where
   pub wrong : f .wrong ≡ Margin.wrongBits p group
   pub normFits : f .norm < 65536
   pub wrongFew : f .wrong ≤ 256
-
--- the smallest margin of a number of groups, by their largest norm
-abbrev pub leastOf : Params → ℕ → ℕ → Option ℤ
-leastOf p zero norm = none
-leastOf p (suc n) norm = some (pos (bound (p .margin)) -ℤ pos norm)
 
 -- the figures of the groups of a string
 pub record Totalled (p : Params) (bytes : List ℕ) (t : Totals) : Type 0 where

@@ -7,7 +7,7 @@ use Rattle.lists.specs.Laws.Booleans.{and-right}
 use Rattle.sets.specs.Sets.{known}
 use Rattle.sets.specs.Requires.{IsSet}
 use Rattle.sets.specs.Laws.Sets.{is-set}
-use Rattle.margin_text.specs.Report.{ascii}
+use Rattle.margin_line.specs.Line.{ascii}
 use Rattle.margin_text.specs.Laws.Texts.{figures-appended}
 use Rattle.margin_text.proofs.figures_into.Statement.{statement}
 use Rattle.margin_text.proofs.figures_into.Tie as tie

@@ -1,7 +1,8 @@
 -- `margin_text::refusal_into` meets its contract.
 use borrow.Author.Needs.{needs}
 use Rattle.lists.specs.Lists.{from}
-use Rattle.margin_text.specs.Report.{ascii, refusal}
+use Rattle.margin_line.specs.Line.{ascii}
+use Rattle.margin_text.specs.Report.{refusal}
 use Rattle.margin_text.proofs.refusal_into.Statement.{statement}
 use Rattle.margin_text.proofs.refusal_into.Tie as tie
 

@@ -8,7 +8,8 @@ use Rattle.sets.specs.Sets.{paramsOf}
 use Rattle.decimals.specs.Decimals.{digitsWithin, decimal}
 use Rattle.margin_group.specs.Margin.{groups, smallest, total, least, wrong}
 use Rattle.margin_group.specs.Laws.Enough.{cases-enough, rest-enough, least-enough, wrong-enough}
-use Rattle.margin_text.specs.Report.{ascii, leastText, line, figures, reportOf}
+use Rattle.margin_line.specs.Line.{ascii, leastText, line}
+use Rattle.margin_text.specs.Report.{figures, reportOf}
 
 -- "The single input byte 02 prints that header and `2 0 none 0 0`"
 pub computed : reportOf (2 ∷ []) ≡ ascii "set cases least wrong rest\n2 0 none 0 0\n"

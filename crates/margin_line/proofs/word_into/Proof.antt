@@ -1,8 +1,8 @@
--- `margin_text::word_into` meets its contract.
+-- `margin_line::word_into` meets its contract.
 use borrow.Author.Needs.{needs}
 use Rattle.decimals.specs.Laws.Texts.{appended-two}
-use Rattle.margin_text.proofs.word_into.Statement.{statement}
-use Rattle.margin_text.proofs.word_into.Tie as tie
+use Rattle.margin_line.proofs.word_into.Statement.{statement}
+use Rattle.margin_line.proofs.word_into.Tie as tie
 
 pub word-into-spec : {M : Type 1} → statement M
 word-into-spec =

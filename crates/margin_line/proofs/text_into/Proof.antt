@@ -1,8 +1,8 @@
--- `margin_text::text_into` meets its contract.
+-- `margin_line::text_into` meets its contract.
 use borrow.Author.Needs.{needs}
-use Rattle.margin_text.specs.Laws.Texts.{appended-copy}
-use Rattle.margin_text.proofs.text_into.Statement.{statement}
-use Rattle.margin_text.proofs.text_into.Tie as tie
+use Rattle.margin_line.specs.Laws.Texts.{appended-copy}
+use Rattle.margin_line.proofs.text_into.Statement.{statement}
+use Rattle.margin_line.proofs.text_into.Tie as tie
 
 pub text-into-spec : {M : Type 1} → statement M
 text-into-spec =

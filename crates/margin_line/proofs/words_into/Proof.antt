@@ -1,12 +1,12 @@
--- `margin_text::words_into` meets its contract.
+-- `margin_line::words_into` meets its contract.
 use mathlib.Core.List.{[], _∷_}
 use native.Mathlib.Omega.{arith}
 use borrow.Author.Needs.{needs}
 use lib.ListN.{length-append}
 use Rattle.decimals.specs.Decimals.{decimal}
 use Rattle.decimals.specs.Laws.Texts.{appended-two}
-use Rattle.margin_text.proofs.words_into.Statement.{statement}
-use Rattle.margin_text.proofs.words_into.Tie as tie
+use Rattle.margin_line.proofs.words_into.Statement.{statement}
+use Rattle.margin_line.proofs.words_into.Tie as tie
 
 pub words-into-spec : {M : Type 1} → statement M
 words-into-spec =

@@ -1,12 +1,12 @@
--- `margin_text::line_into` meets its contract: its parts one behind the other, each with its longest text.
+-- `margin_line::line_into` meets its contract: its parts one behind the other, each with its longest text.
 use native.Mathlib.Omega.{arith}
 use borrow.Author.Needs.{needs}
 use Rattle.decimals.specs.Decimals.{decimal}
-use Rattle.margin_total.specs.Ensures.{leastOf}
-use Rattle.margin_text.specs.Report.{leastText}
-use Rattle.margin_text.specs.Laws.Texts.{Lengths, lengths, words-place, line-appended}
-use Rattle.margin_text.proofs.line_into.Statement.{statement}
-use Rattle.margin_text.proofs.line_into.Tie as tie
+use Rattle.margin_noise.specs.Ensures.{leastOf}
+use Rattle.margin_line.specs.Line.{leastText}
+use Rattle.margin_line.specs.Laws.Texts.{Lengths, lengths, words-place, line-appended}
+use Rattle.margin_line.proofs.line_into.Statement.{statement}
+use Rattle.margin_line.proofs.line_into.Tie as tie
 
 -- each word fits
 long :

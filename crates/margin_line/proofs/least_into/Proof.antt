@@ -1,14 +1,14 @@
--- `margin_text::least_into` meets its contract: `none`, or the difference of 8 × M and the norm.
+-- `margin_line::least_into` meets its contract: `none`, or the difference of 8 × M and the norm.
 use mathlib.Core.Path.{ap}
 use native.Mathlib.Omega.{arith}
 use borrow.Author.Needs.{needs}
 use lib.ListN.{length}
 use Rattle.lists.specs.Lists.{from}
 use Rattle.decimals.specs.Laws.Texts.{appended-as}
-use Rattle.margin_text.specs.Report.{ascii}
-use Rattle.margin_text.specs.Laws.Texts.{none-text, some-text}
-use Rattle.margin_text.proofs.least_into.Statement.{statement}
-use Rattle.margin_text.proofs.least_into.Tie as tie
+use Rattle.margin_line.specs.Line.{ascii}
+use Rattle.margin_line.specs.Laws.Texts.{none-text, some-text}
+use Rattle.margin_line.proofs.least_into.Statement.{statement}
+use Rattle.margin_line.proofs.least_into.Tie as tie
 
 pub least-into-spec : {M : Type 1} → statement M
 unfolding ascii from

@@ -1,12 +1,12 @@
--- `margin_text::difference_into` meets its contract: a minus and b - a, or a - b.
+-- `margin_line::difference_into` meets its contract: a minus and b - a, or a - b.
 use mathlib.Core.Path.{ap}
 use native.Mathlib.Omega.{arith}
 use borrow.Author.Needs.{needs}
 use lib.ListN.{length}
 use Rattle.decimals.specs.Laws.Texts.{appended-as, appended-two}
-use Rattle.margin_text.specs.Laws.Texts.{negative-text, plain-text}
-use Rattle.margin_text.proofs.difference_into.Statement.{statement}
-use Rattle.margin_text.proofs.difference_into.Tie as tie
+use Rattle.margin_line.specs.Laws.Texts.{negative-text, plain-text}
+use Rattle.margin_line.proofs.difference_into.Statement.{statement}
+use Rattle.margin_line.proofs.difference_into.Tie as tie
 
 pub difference-into-spec : {M : Type 1} → statement M
 difference-into-spec =
