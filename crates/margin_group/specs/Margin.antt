@@ -3,7 +3,7 @@ use Prim.Native.Nat.{ℕ, _+_, _*_, _/_, _%_, min}
 use mathlib.Core.Bool.{cond}
 use mathlib.Core.List.{List, [], _∷_, map}
 use mathlib.Core.Option.{Option, none, some}
-use lib.Dec.{eqb, ltb}
+use lib.Dec.{ltb}
 use lib.IntN.{ℤ, pos, _-ℤ_}
 use lib.ListN.{length, take, drop}
 use lib.Signed.{ltZ}
@@ -15,6 +15,7 @@ use Rattle.keys.specs.Keys.{plainSecret}
 use Rattle.kdf.specs.Kdf.{messageOf}
 use Rattle.noise.specs.Noise.{bound}
 use Rattle.margin_noise.specs.Norm
+use Rattle.margin_bits.specs.Bits.{differing}
 use Rattle.correctness.specs.Claim.{seedsNoise, seedsCiphertext}
 
 -- ---- one group
@@ -28,12 +29,6 @@ secretSeed group = take 32 (drop 32 group)
 
 abbrev pub encapsSeed : List ℕ → List ℕ
 encapsSeed group = take 32 (drop 64 group)
-
--- in how many places two lists of one length differ
-unfoldable pub differing : List ℕ → List ℕ → ℕ
-differing (x ∷ xs) (y ∷ ys) = cond (eqb x y) 0 1 + differing xs ys
-differing [] ys = 0
-differing (x ∷ xs) [] = 0
 
 module _ (p : Params) (group : List ℕ) where
   -- "the largest size of a noise coefficient": the norm of the noise

@@ -1,8 +1,6 @@
 // How near decryption comes to a miss: the message bits that decryption gives wrong, and the norm of the noise.
-ghost use mathlib.Core.Bool.{cond};
 ghost use mathlib.Core.Path.{_≡_};
-ghost use Prim.Native.Nat.{_*_, _≤_};
-ghost use lib.Dec.{eqb};
+ghost use Prim.Native.Nat.{_*_};
 ghost use lib.ListN.{length, take, drop};
 ghost use Rattle.algebra.specs.Ring.{poly};
 ghost use Rattle.packing.specs.Packing.{unpacked};
@@ -11,42 +9,9 @@ ghost use Rattle.sampling.specs.Sampling.{matrix, secret};
 ghost use Rattle.pke.specs.Pke.{encrypted, decrypted};
 ghost use Rattle.noise.specs.Noise.{noise};
 ghost use Rattle.margin_noise.specs.Norm.{norm};
-ghost use Rattle.margin_group.specs.Margin.{differing};
+ghost use Rattle.margin_bits.specs.Bits.{differing};
 ghost use Rattle.margin_group.specs.Requires.{WrongLengths, WrongScratch, NormLengths, NormScratch};
 use sets::Params;
-
-// 1 where two numbers differ.
-fn differ(x: u16, y: u16) -> usize
-    ensures { λ r. ⌜ (r ≡ cond (eqb x y) 0 1) × (r ≤ 1) ⌝ }
-{
-    if x == y { 0 } else { 1 }
-}
-
-// In how many places two lists differ.
-fn differing_of(a: &[u16], b: &[u16]) -> usize
-    requires { ⌜ length (now a) ≡ length (now b) ⌝ }
-    ensures { λ r. ⌜ r ≡ differing (now (a .entry)) (now (b .entry)) ⌝ }
-{
-    let mut count = 0;
-    let mut i = 0;
-    while i < a.len() {
-        count += differ(a[i], b[i]);
-        i += 1;
-    }
-    count
-}
-
-// In how many bits two strings of 32 bytes differ.
-fn wrong_bits(sent: &[u8], received: &[u8]) -> usize
-    requires { ⌜ (length (now sent) ≡ 32) × (length (now received) ≡ 32) ⌝ }
-    ensures { λ r. ⌜ r ≡ differing (unpacked 1 (now (sent .entry))) (unpacked 1 (now (received .entry))) ⌝ }
-{
-    let mut a = [0u16; 256];
-    let mut b = [0u16; 256];
-    packing::unpack_into(1, sent, &mut a);
-    packing::unpack_into(1, received, &mut b);
-    differing_of(&a, &b)
-}
 
 // Encrypts a message and decrypts it again: the bits that are wrong. The caller lends scratch for the secret and the ciphertext.
 fn wrong_with(
@@ -67,7 +32,7 @@ fn wrong_with(
     let mut received = [0u8; 32];
     pke::encrypt_with(p, public_key, message, coins, secret, ciphertext);
     pke::decrypt_with(p, &secret_key[0..n], ciphertext, secret, &mut received);
-    wrong_bits(message, &received)
+    margin_bits::wrong_bits(message, &received)
 }
 
 // The same, with scratch of its own.

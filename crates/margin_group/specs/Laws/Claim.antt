@@ -22,7 +22,8 @@ use Rattle.correctness.specs.Claim.{NoiseWithin}
 use Rattle.correctness.specs.Laws.Steps.{returned}
 use Rattle.margin_noise.specs.Norm
 use Rattle.margin_noise.specs.Laws.Bounds.{lies-magnitude, norm-bound, no-larger}
-use Rattle.margin_group.specs.Margin.{matrixSeed, secretSeed, encapsSeed, differing, norm, margin, received, wrongBits}
+use Rattle.margin_bits.specs.Bits.{differing}
+use Rattle.margin_group.specs.Margin.{matrixSeed, secretSeed, encapsSeed, norm, margin, received, wrongBits}
 use Rattle.margin_group.specs.Margin.{groups, smaller, smallest, total, least, wrong}
 
 lies : (b : ℕ) (z : ℤ) → natAbs z ≤ b → Lies b b z

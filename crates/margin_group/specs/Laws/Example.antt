@@ -7,7 +7,8 @@ use lib.IntN.{pos, negsuc}
 use lib.ListN.{length}
 use Rattle.lists.specs.Lists.{from}
 use Rattle.margin_noise.specs.Norm.{norm}
-use Rattle.margin_group.specs.Margin.{matrixSeed, secretSeed, encapsSeed, differing, groups, rest, smallest, total}
+use Rattle.margin_bits.specs.Bits.{differing}
+use Rattle.margin_group.specs.Margin.{matrixSeed, secretSeed, encapsSeed, groups, rest, smallest, total}
 
 -- the norm of -5, 3 and 4 is 5; the smallest of them is -5, and an empty list has none
 pub norms : norm (negsuc 4 ∷ pos 3 ∷ pos 4 ∷ []) ≡ 5

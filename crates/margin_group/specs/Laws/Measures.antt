@@ -24,7 +24,8 @@ use Rattle.pke.specs.Pke.{encrypted, decrypted}
 use Rattle.noise.specs.Noise.{noise}
 use Rattle.margin_noise.specs.Norm.{norm}
 use Rattle.margin_noise.specs.Requires.{Small, NoiseLengths}
-use Rattle.margin_group.specs.Margin.{differing, received}
+use Rattle.margin_bits.specs.Bits.{differing}
+use Rattle.margin_group.specs.Margin.{received}
 
 module _ (p : Params) (pk coins : List ℕ) where
   pub norm-steps :

@@ -29,8 +29,9 @@ use Rattle.noise.specs.Noise.{noise}
 use Rattle.correctness.specs.Claim.{seedsNoise}
 use Rattle.margin_noise.specs.Norm
 use Rattle.margin_noise.specs.Laws.Exact.{noise-fits}
-use Rattle.margin_group.specs.Margin.{matrixSeed, secretSeed, encapsSeed, differing, norm, received, wrongBits}
-use Rattle.margin_group.specs.Laws.Counts.{differing-most}
+use Rattle.margin_bits.specs.Bits.{differing}
+use Rattle.margin_bits.specs.Laws.Bits.{differing-most}
+use Rattle.margin_group.specs.Margin.{matrixSeed, secretSeed, encapsSeed, norm, received, wrongBits}
 use Rattle.margin_group.specs.Laws.Measures.{few-sums}
 use Rattle.margin_total.specs.Ensures.{Measured}
 

@@ -1,9 +1,9 @@
--- `margin_group::wrong_bits` meets its contract: the bits of both strings are compared.
+-- `margin_bits::wrong_bits` meets its contract: the bits of both strings are compared.
 use mathlib.Core.Path.{ap₂, _∙_}
 use borrow.Author.Needs.{needs}
-use Rattle.margin_group.specs.Margin.{differing}
-use Rattle.margin_group.proofs.wrong_bits.Statement.{statement}
-use Rattle.margin_group.proofs.wrong_bits.Tie as tie
+use Rattle.margin_bits.specs.Bits.{differing}
+use Rattle.margin_bits.proofs.wrong_bits.Statement.{statement}
+use Rattle.margin_bits.proofs.wrong_bits.Tie as tie
 
 pub wrong-bits-spec : {M : Type 1} → statement M
 wrong-bits-spec =

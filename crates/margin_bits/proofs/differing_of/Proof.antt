@@ -1,13 +1,13 @@
--- `margin_group::differing_of` meets its contract: the places counted so far, and those that are left.
+-- `margin_bits::differing_of` meets its contract: the places counted so far, and those that are left.
 use Prim.Native.Nat.{_+_, _-_, _≤_}
 use mathlib.Core.Path.{_≡_}
 use native.Mathlib.Omega.{arith}
 use borrow.Author.Needs.{needs}
 use lib.ListN.{length, drop}
-use Rattle.margin_group.specs.Margin.{differing}
-use Rattle.margin_group.specs.Laws.Counts.{differing-more, differing-all}
-use Rattle.margin_group.proofs.differing_of.Statement.{statement}
-use Rattle.margin_group.proofs.differing_of.Tie as tie
+use Rattle.margin_bits.specs.Bits.{differing}
+use Rattle.margin_bits.specs.Laws.Bits.{differing-more, differing-all}
+use Rattle.margin_bits.proofs.differing_of.Statement.{statement}
+use Rattle.margin_bits.proofs.differing_of.Tie as tie
 
 abbrev Inv-loop : tie.InvT-loop
 Inv-loop a b count₀ i₀ count i = (count ≤ i) × (count + differing (drop i a) (drop i b) ≡ differing a b)

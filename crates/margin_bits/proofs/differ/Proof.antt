@@ -1,10 +1,10 @@
--- `margin_group::differ` meets its contract.
+-- `margin_bits::differ` meets its contract.
 use mathlib.Core.Bool.{Bool, cond}
 use mathlib.Core.Path.{sym, ap}
 use native.Mathlib.Omega.{arith}
 use borrow.Author.Tests.{eq-eqb, ne-eqb}
-use Rattle.margin_group.proofs.differ.Statement.{statement}
-use Rattle.margin_group.proofs.differ.Tie as tie
+use Rattle.margin_bits.proofs.differ.Statement.{statement}
+use Rattle.margin_bits.proofs.differ.Tie as tie
 
 pub differ-spec : {M : Type 1} → statement M
 differ-spec =
