@@ -1,7 +1,7 @@
 // The claim that what is encapsulated to a generated key comes back, where the noise is within its bounds: definitions and laws, in specs/.
 
 // The set numbers that the four calls are made with.
-#[derive(Drop)]
+#[derive(Clone, Copy)]
 pub struct SetNumbers {
     pub keygen: u32,
     pub encaps: u32,

@@ -9,14 +9,14 @@ use margin_noise::larger;
 use sets::Params;
 
 // What is found of a group: the norm of its noise, and the message bits that decryption gives wrong.
-#[derive(Drop)]
+#[derive(Clone, Copy)]
 pub struct Figures {
     pub norm: usize,
     pub wrong: usize,
 }
 
 // What is found of many: how many they are, the largest norm, and the wrong bits of all.
-#[derive(Drop)]
+#[derive(Clone, Copy)]
 pub struct Totals {
     pub cases: usize,
     pub norm: usize,

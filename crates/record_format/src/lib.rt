@@ -1,21 +1,21 @@
 // The record of a sealed entry: the types of an entry; definitions, promises and laws, in specs/.
 
 // A door number, or none.
-#[derive(Drop)]
+#[derive(Clone, Copy)]
 pub enum Door {
     Missing,
     Number(u32),
 }
 
 // A time, or none.
-#[derive(Drop)]
+#[derive(Clone, Copy)]
 pub enum Time {
     Missing,
     Number(u64),
 }
 
 // The numbers of an entry.
-#[derive(Drop)]
+#[derive(Clone, Copy)]
 pub struct Head {
     pub door: Door,
     pub time: Time,
@@ -23,7 +23,7 @@ pub struct Head {
 }
 
 // What reading a record gives: the numbers of its entry, or why it is refused.
-#[derive(Drop)]
+#[derive(Clone, Copy)]
 pub enum Read {
     Entry(Head),
     Refused(u8),

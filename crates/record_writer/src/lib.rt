@@ -12,7 +12,7 @@ use record_format::{Door, Time};
 use sets::set_params;
 
 // A number as it is written: its bit of the map, its bytes and itself. A missing one has no bit and no bytes.
-#[derive(Drop)]
+#[derive(Clone, Copy)]
 struct Part {
     bit: u8,
     size: usize,

@@ -3,7 +3,7 @@ ghost use Rattle.std.specs.Prelude.{◌≡◌};
 ghost use Rattle.sets.specs.Sets.{params_of};
 
 // The parameters of a set. An unknown set has 0 everywhere.
-#[derive(Drop)]
+#[derive(Clone, Copy)]
 pub struct Params {
     // the set's own number, never 0
     pub number: u32,
