@@ -1,4 +1,6 @@
 // Strings of bytes: copied, compared, chosen and joined.
+#![tactic(auto)]
+
 ghost use Rattle.std.specs.Prelude.{cond, ◌++◌, ◌≡◌, ◌+◌, ◌≤◌, eqb, length};
 ghost use Rattle.lists.specs.Strings.{same, placed};
 

@@ -1,4 +1,6 @@
 // The ring product by halves, and the form of it that the scheme uses: one polynomial times several.
+#![tactic(auto)]
+
 ghost use Rattle.std.specs.Prelude.{◌≡◌, ℕ, ◌+◌, ◌*◌, ◌≤◌, length};
 ghost use Rattle.lists.specs.Lists.{from};
 ghost use Rattle.algebra.specs.Ring.{poly, blocks};

@@ -3,6 +3,8 @@
 // Coefficients stand in chunks of 16; a chunk of an operand has 8 zeros before it. Operands are laid chunk by chunk: the first chunk of each
 // row, then that of b, then the second chunks, and so on; products the same, without b and without zeros. So each chunk of a row has 8 zeros
 // on each side, and every window of it is a part of the slice.
+#![tactic(auto)]
+
 ghost use Rattle.std.specs.Prelude.{◌≡◌, ℕ, ◌+◌, ◌<◌, ◌≤◌, length, pos, slice_index};
 ghost use Rattle.lists.specs.Lists.{from};
 ghost use Rattle.algebra.specs.Integers.{Same};

@@ -1,4 +1,6 @@
 // The permutation Keccak-f[1600] of FIPS 202, section 3, on a state of 5 by 5 lanes: a[x][y] is the lane A[x, y], and a[x] a sheet.
+#![tactic(auto)]
+
 ghost use Rattle.std.specs.Prelude.{◌≡◌, ◌∷◌, [], ◌<◌};
 ghost use Rattle.keccak.specs.Keccak.{five, lane, rot, parity, effect, theta_at, theta, rho, pi_at, pi, chi_at, chi, iota, rnd, keccak_f};
 

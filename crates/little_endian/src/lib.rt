@@ -1,4 +1,6 @@
 // Strings of bytes read and written as numbers, lowest byte first.
+#![tactic(auto)]
+
 ghost use Rattle.std.specs.Prelude.{◌≡◌, ◌+◌, ◌*◌, ◌^◌, ◌<◌, ◌≤◌, length, take, drop};
 ghost use Rattle.lists.specs.Numbers.{number, digits};
 ghost use Rattle.lists.specs.Strings.{placed};

@@ -1,4 +1,6 @@
 // In how many bits two messages differ.
+#![tactic(auto)]
+
 ghost use Rattle.std.specs.Prelude.{cond, ◌≡◌, ◌≤◌, eqb, length};
 ghost use Rattle.packing.specs.Packing.{unpacked};
 ghost use Rattle.margin_bits.specs.Bits.{differing};

@@ -2,6 +2,8 @@
 //
 // Errors lie in -3 .. 4 and secrets are small, so that the magnitude of every coefficient is less than 32768 (`Laws/Bounds`): its residue
 // modulo 65536 says which number it is, and all sums are made modulo 65536.
+#![tactic(auto)]
+
 ghost use Rattle.std.specs.Prelude.{◌≡◌, ℕ, max, map, length, pos, ◌-ℤ◌, slice_index, unsigned_abs};
 ghost use Rattle.lists.specs.Lists.{from};
 ghost use Rattle.algebra.specs.Integers.{modℤ};

@@ -1,4 +1,6 @@
 // Packing and unpacking, at any width of 1 to 16 bits, four bytes at a time.
+#![tactic(auto)]
+
 ghost use Rattle.std.specs.Prelude.{◌≡◌, ◌+◌, ◌*◌, ◌%◌, ◌^◌, ◌≤◌, length};
 ghost use Rattle.questions.specs.Answers.{earliest};
 ghost use Rattle.packing.specs.Packing.{packed, unpacked, is_width, pack_questions, unpack_questions};

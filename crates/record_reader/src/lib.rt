@@ -1,4 +1,6 @@
 // Reads the record of a sealed entry.
+#![tactic(auto)]
+
 ghost use Rattle.std.proofs.Math.Option;
 ghost use Rattle.std.proofs.Math.Option.{or_else};
 ghost use Rattle.std.specs.Prelude.{◌≡◌, ◌^◌, ◌<◌, ◌≤◌, get_or, take, drop};

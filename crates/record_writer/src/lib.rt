@@ -1,4 +1,6 @@
 // Writes the record of a sealed entry.
+#![tactic(auto)]
+
 ghost use Rattle.std.specs.Prelude.{[], ◌∷◌, ◌++◌, ◌≡◌, ◌≤◌, length};
 ghost use Rattle.lists.specs.Numbers.{digits};
 ghost use Rattle.questions.specs.Answers.{earliest};

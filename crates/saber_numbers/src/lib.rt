@@ -1,5 +1,7 @@
 // Calls in numbers alone, for callers in C and Rust: the lookup as an offset and a length, since no part of a slice can be handed back to them,
 // and a flag for each number that may be missing, since they pass no enum.
+#![tactic(auto)]
+
 ghost use Rattle.std.specs.Prelude.{◌≡◌};
 ghost use Rattle.questions.specs.Answers.{written};
 ghost use Rattle.record_format.specs.Records.{door_of, time_of, door_number, time_number};

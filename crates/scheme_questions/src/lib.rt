@@ -1,4 +1,6 @@
 // What the scheme's five calls answer, from the set number and the lengths alone.
+#![tactic(auto)]
+
 ghost use Rattle.std.specs.Prelude.{◌≡◌};
 ghost use Rattle.questions.specs.Answers.{earliest};
 ghost use Rattle.scheme_questions.specs.Questions.{keygen_questions, encaps_questions, decaps_questions, encrypt_questions, decrypt_questions};

@@ -1,4 +1,6 @@
 // The parameter sets by number.
+#![tactic(auto)]
+
 ghost use Rattle.std.specs.Prelude.{◌≡◌};
 ghost use Rattle.sets.specs.Sets.{params_of};
 
@@ -24,6 +26,7 @@ pub struct Params {
 }
 
 // The parameters of a set number; 0 means Saber.
+#[tactic(auto, using(crate::specs::Laws::Sets::unknown_from), unfolding(crate::specs::Sets::params_of))]
 pub fn set_params(set: u32) -> Params
     ensures { result ≡ params_of set }
 {

@@ -1,4 +1,6 @@
 // The three hashes of FIPS 202 that Saber uses. The domain byte holds the domain's bits and the padding's first 1: 0x1f of SHAKE, 0x06 of SHA-3.
+#![tactic(auto)]
+
 ghost use Rattle.std.specs.Prelude.{◌≡◌, ◌<◌, length};
 ghost use Rattle.sponge.specs.Sponge.{sponge};
 ghost use Rattle.sha3.specs.Hashes.{shake128, sha3_256, sha3_512};

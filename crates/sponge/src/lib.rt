@@ -1,4 +1,6 @@
 // The sponge of FIPS 202 on bytes, at any rate.
+#![tactic(auto)]
+
 ghost use Rattle.std.specs.Prelude.{◌≡◌, ◌++◌, ◌<◌, ◌≤◌, ◌-◌, min, length, replicate};
 ghost use Rattle.lists.specs.Lists.{from};
 ghost use Rattle.keccak.specs.Keccak.{five, state, keccak_f};

@@ -1,5 +1,5 @@
 -- One row added to zeros is the ring product; so both calls of the ring product agree.
-use Rattle.std.specs.Prelude.{◌≡◌, ℕ, ◌<◌, List, length, pos, ◌+ℤ◌, refl}
+use Rattle.std.specs.Prelude.{◌≡◌, ℕ, ◌<◌, List, length, pos, refl}
 use Rattle.std.proofs.Common.{sym, ◌∙◌, ap, arith, take_all}
 use Rattle.std.proofs.Math.IntN.{+ℤ_idl}
 use Rattle.lists.specs.Lists.{from}

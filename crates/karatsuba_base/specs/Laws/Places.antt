@@ -1,5 +1,5 @@
 -- Laws of the places of coefficients.
-use Rattle.std.specs.Prelude.{◌≡◌, ℕ, suc, ◌+◌, ◌-◌, ◌*◌, ◌/◌, ◌%◌, ◌<◌, ◌≤◌, List, pos, slice_index, refl}
+use Rattle.std.specs.Prelude.{◌≡◌, ℕ, suc, ◌+◌, ◌*◌, ◌/◌, ◌%◌, ◌<◌, ◌≤◌, List, pos, slice_index, refl}
 use Rattle.std.proofs.Common.{sym, ◌∙◌, ap, mul-add, mul-suc, mul-le-mul_left, arith}
 use Rattle.std.proofs.Math.Decide.{dec_lt}
 use Rattle.algebra.specs.Halves.{low, high, Degree}
