@@ -1,4 +1,6 @@
 // Weights: what a coefficient of a secret is, from a number of bits in two pieces; and signed numbers modulo 8192 and 65536.
+#![tactic(auto)]
+
 ghost use Rattle.std.specs.Prelude.{map, ◌≡◌, ◌≤◌, length};
 ghost use Rattle.algebra.specs.Integers.{modℤ};
 ghost use Rattle.algebra.specs.Ring.{residues};

@@ -1,11 +1,13 @@
 // The arguments of a request, read from its line.
+#![tactic(auto)]
+
 ghost use Rattle.std.specs.Prelude.{◌≤◌, ◌<◌, length};
 
 use call_words::{Bytes, List, Optional, Signed, Step};
 use record_format::{Door, Time};
 
 // How many arguments of each kind a call takes, in the order in which they stand.
-#[derive(Drop)]
+#[derive(Clone, Copy)]
 pub struct Shape {
     pub optionals: usize,
     pub numbers: usize,

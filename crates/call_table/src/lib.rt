@@ -1,4 +1,6 @@
 // The library's calls by name, and what each takes.
+#![tactic(auto)]
+
 use call_arguments::Shape;
 
 // The calls that answer with a number.
@@ -48,7 +50,7 @@ pub enum Found {
 
 // A form where its name is the one that is asked for, and else what was found before.
 fn select(found: Found, asked: &[u8], name: &[u8], form: Form) -> Found {
-    if check::same(asked, name) {
+    if asked == name {
         return Found::Form(form);
     }
     found

@@ -1,6 +1,8 @@
 // The words of requests and replies, with one space between: decimal numbers; bytes as hex pairs; numbers of 16 bits as four hex digits;
 // signed numbers as decimals with commas between; `-` for an empty string or list and for a missing number. What does not fit a buffer is
 // left out; the contracts say that the code stays within its buffers. What decimals spell is promised in `decimals`.
+#![tactic(auto)]
+
 ghost use Rattle.std.specs.Prelude.{◌≤◌, ◌<◌, length};
 
 // A line has at most 65,536 bytes. These hold what its words spell, and the text that spells as much: two digits a byte, and at most four
@@ -26,7 +28,7 @@ pub const TOO_LARGE: u8 = decimals::TOO_LARGE;
 
 // What reading gave: the number, or how many bytes or signed numbers were read up to here; where the next word starts, past the line's end
 // where there is none; and what is wrong up to there.
-#[derive(Drop)]
+#[derive(Clone, Copy)]
 pub struct Step {
     pub value: usize,
     pub next: usize,
@@ -34,14 +36,14 @@ pub struct Step {
 }
 
 // A number that may be missing.
-#[derive(Drop)]
+#[derive(Clone, Copy)]
 pub enum Optional {
     Missing,
     Number(usize),
 }
 
 // What reading such a number gave.
-#[derive(Drop)]
+#[derive(Clone, Copy)]
 pub struct OptionalStep {
     pub number: Optional,
     pub step: Step,
@@ -59,7 +61,7 @@ pub fn word_end(line: &[u8], at: usize) -> usize
     requires { at ≤ length line.now }
     ensures { (at ≤ result) × (result ≤ length line.now) }
 {
-    bytes::scan::find(line, at, line.len(), b' ')
+    decimals::find(line, at, line.len(), b' ')
 }
 
 // The value of a hex digit, and 16 for any other byte.
@@ -99,7 +101,8 @@ pub fn read_optional(wanted: bool, most: usize, line: &[u8], from: Step) -> Opti
     let at = from.next;
     if at < line.len() {
         let end = word_end(line, at);
-        if wanted & check::same(&line[at..end], b"-") {
+        let word = &line[at..end];
+        if wanted & (word == b"-".as_slice()) {
             return OptionalStep {
                 number: Optional::Missing,
                 step: Step {
@@ -122,7 +125,7 @@ pub fn read_optional(wanted: bool, most: usize, line: &[u8], from: Step) -> Opti
 fn hex_into(word: &[u8], digits: usize, place: usize, bytes: &mut Bytes) -> u8
     requires { (0 < digits) × (place ≤ 32768) }
 {
-    if check::same(word, b"-") {
+    if word == b"-".as_slice() {
         return SOUND;
     }
     if word.len() == 0 {

@@ -1,3 +1,4 @@
+pub mod Places
 pub mod Decimals
 pub mod Signs
 pub mod Texts

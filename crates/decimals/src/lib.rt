@@ -1,4 +1,9 @@
-// Decimal words: numbers up to a bound, and lists of signed numbers of eight bits. What reading gives; definitions and laws are in specs/.
+// Decimal words: numbers up to a bound, and lists of signed numbers of eight bits. What reading gives; definitions and laws are in specs/. Where a
+// byte stands in a part of a string.
+#![tactic(auto)]
+
+ghost use Rattle.std.specs.Prelude.{◌≡◌, ◌+◌, ◌≤◌, length};
+ghost use Rattle.decimals.specs.Places.{slice, index_of};
 
 // What is wrong with a word, or nothing.
 pub const SOUND: u8 = 0;
@@ -8,8 +13,24 @@ pub const BAD_DIGIT: u8 = 2;
 pub const TOO_LARGE: u8 = 4;
 
 // What reading gave: the number, or how many numbers there are, and what is wrong.
-#[derive(Drop)]
+#[derive(Clone, Copy)]
 pub struct Reading {
     pub value: usize,
     pub fault: u8,
+}
+
+// The first place of a byte from `at` on and before `end`, or else `end`.
+pub fn find(s: &[u8], at: usize, end: usize, b: u8) -> usize
+    requires low { at ≤ end }
+    requires high { end ≤ length s.now }
+    ensures place { result ≡ at + index_of b (slice at end s.now) }
+    ensures within { result ≤ end }
+{
+    let part = &s[at..end];
+    for (k, x) in part.iter().enumerate() {
+        if *x == b {
+            return at + k;
+        }
+    }
+    end
 }

@@ -1,4 +1,6 @@
 // Decimal words read: numbers up to a bound, and lists of signed numbers of eight bits.
+#![tactic(auto)]
+
 ghost use Rattle.std.specs.Prelude.{◌≡◌, ◌*◌, ◌≤◌, pos, neg_ℤ, length, get_or};
 ghost use Rattle.decimals.specs.Decimals.{ReadDecimal};
 ghost use Rattle.decimals.specs.Signed.{ReadList};
@@ -109,7 +111,7 @@ pub fn signed_of(word: &[u8], list: &mut [i8]) -> Reading
     requires { length word.now ≤ 2 * length list.old }
     ensures { ReadList word.now list.new result.value result.fault }
 {
-    if check::same(word, b"-") {
+    if word == b"-".as_slice() {
         return Reading {
             value: 0,
             fault: SOUND,
@@ -119,7 +121,7 @@ pub fn signed_of(word: &[u8], list: &mut [i8]) -> Reading
     let mut count = 0;
     let mut at = 0;
     loop {
-        let end = bytes::scan::find(word, at, word.len(), b',');
+        let end = decimals::find(word, at, word.len(), b',');
         let piece = piece_of(&word[at..end]);
         if piece.fault == BAD_DIGIT {
             return Reading {

@@ -1,4 +1,6 @@
 // Decimal words written: numbers, and lists of signed numbers of eight bits.
+#![tactic(auto)]
+
 ghost use Rattle.std.specs.Prelude.{◌≡◌, [], ◌∷◌, ◌+◌, ◌*◌, ◌≤◌, ◌<◌, nat_abs, length, take};
 ghost use Rattle.decimals.specs.Decimals.{decimal};
 ghost use Rattle.decimals.specs.Signed.{number_text, list_text};

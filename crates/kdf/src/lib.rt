@@ -1,4 +1,6 @@
 // The hashes of encapsulation and decapsulation: k and the coins from a message, and the secret of a ciphertext under k or z.
+#![tactic(auto)]
+
 ghost use Rattle.std.specs.Prelude.{cond, ◌++◌, ◌≡◌, length};
 ghost use Rattle.lists.specs.Strings.{same};
 ghost use Rattle.sha3.specs.Hashes.{sha3_512};

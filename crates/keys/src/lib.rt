@@ -1,4 +1,6 @@
 // Making keys, their layout, and the public key inside a secret key.
+#![tactic(auto)]
+
 ghost use Rattle.std.specs.Prelude.{true, ◌++◌, ◌≡◌, length};
 ghost use Rattle.questions.specs.Answers.{earliest};
 ghost use Rattle.algebra.specs.Ring.{nat};

@@ -1,4 +1,6 @@
 // How near decryption comes to a miss: the message bits that decryption gives wrong, and the norm of the noise.
+#![tactic(auto)]
+
 ghost use Rattle.std.specs.Prelude.{◌≡◌, ◌*◌, length, take, drop};
 ghost use Rattle.algebra.specs.Ring.{poly};
 ghost use Rattle.packing.specs.Packing.{unpacked};

@@ -1,4 +1,6 @@
 // Groups of seeds: the figures of each, and those of many together.
+#![tactic(auto)]
+
 ghost use Rattle.std.specs.Prelude.{◌≡◌, ◌/◌, min, length};
 ghost use Rattle.sets.specs.Requires.{IsSet};
 ghost use Rattle.margin_total.specs.Requires.{GroupScratch};

@@ -1,4 +1,6 @@
 // Products of vectors and matrices. A matrix is packed, and each of its polynomials is unpacked when it is multiplied.
+#![tactic(auto)]
+
 ghost use Rattle.std.specs.Prelude.{cond, ◌≡◌, ℕ, ◌+◌, ◌*◌, ◌≤◌, length};
 ghost use Rattle.algebra.specs.Ring.{nat, poly, blocks};
 ghost use Rattle.packing.specs.Packing.{unpacked};

@@ -1,4 +1,6 @@
 // Packing to a place of a larger output: one polynomial, and the polynomials of a vector.
+#![tactic(auto)]
+
 ghost use Rattle.std.specs.Prelude.{◌≡◌, length};
 ghost use Rattle.lists.specs.Strings.{placed};
 ghost use Rattle.packing.specs.Packing.{packed};

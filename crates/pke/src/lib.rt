@@ -1,4 +1,6 @@
 // Encryption and decryption, beneath the key encapsulation.
+#![tactic(auto)]
+
 ghost use Rattle.std.specs.Prelude.{◌≡◌, length};
 ghost use Rattle.lists.specs.Strings.{placed};
 ghost use Rattle.sets.specs.Sets.{added};

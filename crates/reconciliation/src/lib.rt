@@ -1,4 +1,6 @@
 // Reconciliation: w of a message, the data that encryption sends of it, and the recovery of the message bits.
+#![tactic(auto)]
+
 ghost use Rattle.std.specs.Prelude.{◌≡◌, length};
 ghost use Rattle.questions.specs.Answers.{earliest};
 ghost use Rattle.reconciliation.specs.Reconciliation.{masked, bit_of, masked_poly, recon_data, recovered, recon_data_questions, recover_questions};

@@ -1,4 +1,6 @@
 // The product of two polynomials with X^256 = -1, made modulo 65536 and then reduced.
+#![tactic(auto)]
+
 ghost use Rattle.std.specs.Prelude.{◌≡◌, ℕ, ◌*◌, ◌%◌, true, map, length};
 ghost use Rattle.questions.specs.Answers.{earliest};
 ghost use Rattle.algebra.specs.Integers.{modℤ};

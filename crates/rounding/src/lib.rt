@@ -1,4 +1,6 @@
 // Rounding of coefficients modulo 8192 to coefficients modulo 1024.
+#![tactic(auto)]
+
 ghost use Rattle.std.specs.Prelude.{◌≡◌, map, length};
 ghost use Rattle.questions.specs.Answers.{earliest};
 ghost use Rattle.rounding.specs.Rounding.{round_questions};

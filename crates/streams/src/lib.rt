@@ -1,9 +1,28 @@
 // Standard input and output of the programs, by calls that tell an error from an end. A call that a signal interrupts is made again. After
-// any other that fails, `errno` says why.
+// any other that fails, the stream keeps why.
+#![tactic(auto)]
+
 ghost use Rattle.std.specs.Prelude.{◌≤◌, length};
 
-// What reading gave: how many bytes stand at the front of the buffer, whether there may be more input, and whether a call failed.
+use itoa::Buffer;
+use std::io;
+use std::io::{ErrorKind, Read, Write};
+
+// A reader or a writer, and why a call on it failed last.
 #[derive(Drop)]
+pub struct Stream<S> {
+    inner: S,
+    error: Option<io::Error>,
+}
+
+impl<S> Stream<S> {
+    pub fn new(inner: S) -> Self {
+        Stream { inner, error: None }
+    }
+}
+
+// What reading gave: how many bytes stand at the front of the buffer, whether there may be more input, and whether a call failed.
+#[derive(Clone, Copy)]
 pub struct Got {
     pub count: usize,
     pub open: bool,
@@ -11,33 +30,44 @@ pub struct Got {
 }
 
 // Whether a call that gave this was interrupted.
-fn is_interrupted(moved: isize) -> bool {
-    moved < 0 && os::errno() == libc::EINTR
+fn is_interrupted(error: &io::Error) -> bool {
+    error.kind() == ErrorKind::Interrupted
 }
 
 // Reads once. A call that was interrupted gives no bytes, and that there may be more.
-pub fn read(buffer: &mut [u8]) -> Got
+pub fn read<R: Read>(input: &mut Stream<R>, buffer: &mut [u8]) -> Got
     ensures { result.count ≤ length buffer.new }
 {
-    let moved = libc::read(libc::STDIN_FILENO, buffer);
-    let interrupted = is_interrupted(moved);
-    Got {
-        count: io::count(moved, buffer),
-        open: (moved > 0) | interrupted,
-        failed: (moved < 0) & !interrupted,
+    match input.inner.read(buffer) {
+        Ok(count) => Got {
+            count,
+            open: count > 0,
+            failed: false,
+        },
+        Err(error) => {
+            let interrupted = is_interrupted(&error);
+            if !interrupted {
+                input.error = Some(error);
+            }
+            Got {
+                count: 0,
+                open: interrupted,
+                failed: !interrupted,
+            }
+        }
     }
 }
 
 // Reads until the buffer is full, the input ends or a call fails. A proved loop has to end, so the turns are counted down from a number
 // that no run uses up.
-pub fn read_full(buffer: &mut [u8]) -> Got
+pub fn read_full<R: Read>(input: &mut Stream<R>, buffer: &mut [u8]) -> Got
     ensures { result.count ≤ length buffer.new }
 {
     let n = buffer.len();
     let mut at = 0;
     let mut turns = u64::MAX;
     while turns > 0 && at < n {
-        let got = read(&mut buffer[at..n]);
+        let got = read(input, &mut buffer[at..n]);
         if !got.open {
             return Got {
                 count: at,
@@ -56,25 +86,52 @@ pub fn read_full(buffer: &mut [u8]) -> Got
 }
 
 // Writes all of a text, or stops at the first call that fails or takes nothing; says whether all is written.
-pub fn write_all(text: &[u8]) -> bool {
+pub fn write_all<W: Write>(output: &mut Stream<W>, text: &[u8]) -> bool {
     let n = text.len();
     let mut at = 0;
     let mut turns = u64::MAX;
     while turns > 0 && at < n {
         let rest = &text[at..n];
-        let moved = libc::write(libc::STDOUT_FILENO, rest);
-        if moved <= 0 && !is_interrupted(moved) {
-            return false;
+        match output.inner.write(rest) {
+            Ok(0) => {
+                output.error = Some(io::Error::from(ErrorKind::WriteZero));
+                return false;
+            }
+            Ok(count) => at += count,
+            Err(error) => {
+                if !is_interrupted(&error) {
+                    output.error = Some(error);
+                    return false;
+                }
+            }
         }
-        at += io::count(moved, rest);
         turns -= 1;
     }
     at == n
 }
 
 // Writes a number in decimal.
-pub fn print_decimal(x: u64) -> bool {
-    let mut text = [0u8; 20];
-    let n = io::decimal(x, &mut text);
-    write_all(&text[..n])
+pub fn print_decimal<W: Write>(output: &mut Stream<W>, x: u64) -> bool {
+    let mut buffer = Buffer::new();
+    write_all(output, buffer.format(x).as_bytes())
+}
+
+// The text of an error without the number that the system gives it.
+fn reason(text: &str) -> &str {
+    match text.split_once(" (os error ") {
+        Some((reason, _)) => reason,
+        None => text,
+    }
+}
+
+// Says on standard error what failed, and why.
+pub fn fail<S>(rt: &(impl Eprint + AllocGlobal), what: &str, stream: &Stream<S>) -> io::Result<()> {
+    match &stream.error {
+        Some(error) => {
+            let text = format!(in rt.alloc(); "{error}")?;
+            let reason = reason(text.as_str());
+            eprintln!(rt; "{what}: {reason}")
+        }
+        None => eprintln!(rt; "{what}"),
+    }
 }

@@ -11,7 +11,7 @@ use Rattle.std.proofs.Math.IntN.{pos, neg_ℤ}
 use Rattle.std.proofs.Math.ListN.{length-take}
 use Rattle.std.proofs.Math.Seq.{take-length, take-suc-set}
 use borrow.Author.Tests.{lt-ltb, le-ltb, eq-eqb, ne_eqb, eqb-true}
-use Rattle.bytes.specs.Bytes.{index_of, index_after, slice}
+use Rattle.decimals.specs.Places.{index_of, index_after, slice}
 use Rattle.decimals.specs.Decimals.{every, is_decimal, fault, ReadDecimal}
 use Rattle.decimals.specs.Signed.{minus, comma, in_front, pieces, is_none, pieces_of, is_negative, is_formed, number_of, is_small}
 use Rattle.decimals.specs.Signed.{numbers_of, fault_of, ReadList}

@@ -1,0 +1,10 @@
+-- What is written and the text of what is left are the list's.
+use Rattle.std.proofs.Common.{◌-◌, ◌≤◌, length}
+use Rattle.decimals.specs.Laws.Texts.{Written}
+use Rattle.decimals_write.proofs.signed_into.Given as goal
+
+abbrev pub invariant-loop-i : goal.invariant-loop-i
+invariant-loop-i l = record { within : l.i ≤ length l.list; written : Written l.list l.i l.text l.at }
+
+abbrev pub decreases-loop-i : goal.decreases-loop-i
+decreases-loop-i l = length l.list - l.i
