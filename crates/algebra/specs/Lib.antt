@@ -3,4 +3,3 @@ pub mod Ring
 pub mod Columns
 pub mod Halves
 pub mod Vectors
-pub mod Laws

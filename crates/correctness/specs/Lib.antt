@@ -1,3 +1,2 @@
 pub mod Claim
 pub mod Promises
-pub mod Laws

@@ -1,2 +1,1 @@
 pub mod Noise
-pub mod Laws

@@ -2,4 +2,3 @@ pub mod Records
 pub mod Before
 pub mod Promises
 pub mod Ensures
-pub mod Laws

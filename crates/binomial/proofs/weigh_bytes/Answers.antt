@@ -10,8 +10,8 @@ use lib.Count.{ones, ones_in}
 use lib.IntN.{ℤ, pos}
 use lib.ListN.{get_or}
 use Rattle.lists.specs.Lists.{from}
-use Rattle.lists.specs.Laws.Fill.{fill_none, fill_more, fill_all}
-use Rattle.lists.specs.Laws.Lists.{from_at, from_map}
+use Rattle.lists.proofs.Laws.Fill.{fill_none, fill_more, fill_all}
+use Rattle.lists.proofs.Laws.Lists.{from_at, from_map}
 use Rattle.binomial.specs.Binomial.{weighed}
 use Rattle.binomial.proofs.weigh_bytes.Goals as goal
 

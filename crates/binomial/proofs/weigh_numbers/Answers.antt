@@ -4,8 +4,8 @@ use native.Mathlib.Omega.{arith}
 use borrow.Author.Rules.{sfits_of}
 use mir.Syntax.{w8}
 use mir.Facts.{to_z-of_z}
-use Rattle.lists.specs.Laws.Fill.{fill_none, fill_more, fill_all}
-use Rattle.lists.specs.Laws.Lists.{from_map}
+use Rattle.lists.proofs.Laws.Fill.{fill_none, fill_more, fill_all}
+use Rattle.lists.proofs.Laws.Lists.{from_map}
 use Rattle.binomial.specs.Binomial.{weighed}
 use Rattle.binomial.proofs.weigh_numbers.Goals as goal
 

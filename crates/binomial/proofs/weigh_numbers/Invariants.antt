@@ -1,7 +1,7 @@
 -- `binomial::weigh_numbers` meets its contract: one number a turn.
 use Prim.Native.Nat.{ℕ, ◌-◌}
 use lib.ListN.{length, get_or}
-use Rattle.lists.specs.Laws.Fill.{Filled}
+use Rattle.lists.proofs.Laws.Fill.{Filled}
 use Rattle.binomial.specs.Binomial.{weighed}
 use Rattle.binomial.proofs.weigh_numbers.Given as goal
 

@@ -10,7 +10,7 @@ use mir.Syntax.{w8, w32}
 use mir.Val.{Fits, SFits, to_z, of_z}
 use mir.Facts.{sfits_widen, to_z-of_z}
 use Rattle.algebra.specs.Integers.{up, dn, modℤ}
-use Rattle.algebra.specs.Laws.Whole.{eqℤ, add_split}
+use Rattle.algebra.proofs.Laws.Whole.{eqℤ, add_split}
 use Rattle.binomial.proofs.word.Goals as goal
 
 -- the sum as a natural number, which is below 2 ^ 31 and has the residue of z

@@ -6,8 +6,8 @@ use mir.Val.{to_z, of_z}
 use borrow.Author.Rules.{rules}
 use lib.ListN.{get_or}
 use lib.IntN.{pos}
-use Rattle.lists.specs.Laws.Fill.{fill_none, fill_more, fill_all}
-use Rattle.lists.specs.Laws.Lists.{from_map}
+use Rattle.lists.proofs.Laws.Fill.{fill_none, fill_more, fill_all}
+use Rattle.lists.proofs.Laws.Lists.{from_map}
 use Rattle.algebra.specs.Integers.{modℤ}
 use Rattle.binomial.proofs.words_into.Goals as goal
 

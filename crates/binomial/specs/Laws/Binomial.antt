@@ -2,7 +2,7 @@
 use Rattle.std.specs.Prelude.{ℕ, ◌+◌, ◌≤◌, ◌≡◌, ℤ, pos, negsuc, neg_ℤ, nat_abs, ◌-ℤ◌}
 use Rattle.std.proofs.Common.{arith}
 use Rattle.algebra.specs.Integers.{up, dn}
-use Rattle.algebra.specs.Laws.Whole.{add_split, up_neg, dn_neg}
+use Rattle.algebra.proofs.Laws.Whole.{add_split, up_neg, dn_neg}
 
 -- the difference of two counts up to h lies in -h .. h
 pub sub_bound : (h x y : ℕ) → x ≤ h → y ≤ h → nat_abs (pos x -ℤ pos y) ≤ h

@@ -2,7 +2,7 @@
 use mathlib.Core.Path.{refl}
 use lib.Dec.{eqb}
 use borrow.Author.Rules.{rules}
-use Rattle.lists.specs.Laws.Fill.{fill_none, fill_more, fill_chosen}
+use Rattle.lists.proofs.Laws.Fill.{fill_none, fill_more, fill_chosen}
 use Rattle.byte_strings.proofs.choose.Goals as goal
 
 pub loop-i-init : goal.loop-i-init

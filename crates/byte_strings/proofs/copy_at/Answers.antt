@@ -5,7 +5,7 @@ use native.Mathlib.Omega.{arith}
 use borrow.Author.Rules.{rules}
 use lib.ListN.{length}
 use lib.Seq.{paste-zero, paste-suc, length-paste}
-use Rattle.lists.specs.Laws.Strings.{placed_paste}
+use Rattle.lists.proofs.Laws.Strings.{placed_paste}
 use Rattle.byte_strings.proofs.copy_at.Goals as goal
 
 pub loop-i-init : goal.loop-i-init

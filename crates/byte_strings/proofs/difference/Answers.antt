@@ -3,7 +3,7 @@ use mathlib.Core.Path.{refl, ◌∙◌}
 use native.Mathlib.Omega.{arith}
 use borrow.Author.Rules.{rules}
 use Rattle.lists.specs.Strings.{same}
-use Rattle.lists.specs.Laws.Strings.{same_more, same_all}
+use Rattle.lists.proofs.Laws.Strings.{same_more, same_all}
 use Rattle.byte_strings.proofs.difference.Goals as goal
 
 pub loop-i-init : goal.loop-i-init

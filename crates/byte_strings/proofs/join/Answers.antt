@@ -1,5 +1,5 @@
 -- `byte_strings::join` meets its contract: the first string stands in front, and the second behind it.
-use Rattle.lists.specs.Laws.Strings.{placed_two}
+use Rattle.lists.proofs.Laws.Strings.{placed_two}
 use Rattle.byte_strings.proofs.join.Goals as goal
 
 pub returns : goal.returns

@@ -1,6 +1,6 @@
 -- `karatsuba::clear` meets its contract: one place a turn.
 use Rattle.std.proofs.Common.{◌-◌, length}
-use Rattle.lists.specs.Laws.Fill.{Filled}
+use Rattle.lists.proofs.Laws.Fill.{Filled}
 use Rattle.karatsuba.proofs.clear.Given as goal
 
 abbrev pub invariant-loop-k : goal.invariant-loop-k

@@ -1,6 +1,6 @@
 -- `karatsuba::folded` meets its contract: one place a turn.
 use Rattle.std.proofs.Common.{◌-◌}
-use Rattle.lists.specs.Laws.Fill.{Filled}
+use Rattle.lists.proofs.Laws.Fill.{Filled}
 use Rattle.karatsuba.specs.Ensures.{fold_at}
 use Rattle.karatsuba.proofs.folded.Given as goal
 

@@ -5,10 +5,10 @@ use Rattle.std.proofs.Math.Nat.{mod-mod, mul-suc}
 use borrow.Rule.Slice.PartMut.{put_mid, mid_of, same_len_mid}
 use Rattle.std.proofs.Math.Seq.{drop-drop}
 use Rattle.lists.specs.Lists.{from}
-use Rattle.lists.specs.Laws.Lists.{from_at, length_from}
+use Rattle.lists.proofs.Laws.Lists.{from_at, length_from}
 use Rattle.algebra.specs.Integers.{modℤ}
 use Rattle.algebra.specs.Ring.{poly, blocks}
-use Rattle.algebra.specs.Laws.Residues.{mod_of, same_refl, same_trans, same_add, same_plus, same_minus}
+use Rattle.algebra.proofs.Laws.Residues.{mod_of, same_refl, same_trans, same_add, same_plus, same_minus}
 use Rattle.karatsuba_base.specs.Layout.{offset}
 use Rattle.karatsuba_base.specs.Ensures.{Put}
 use Rattle.karatsuba.specs.Ensures.{fold_at, fold_row}

@@ -3,16 +3,16 @@ use Rattle.std.specs.Prelude.{◌≡◌, ℕ, ◌+◌, ◌*◌, ◌<◌, ◌≤�
 use Rattle.std.proofs.Common.{inl, sym, ◌∙◌, ap, arith, length-take, length-drop}
 use Rattle.std.proofs.lemmas.List.{length-map}
 use Rattle.lists.specs.Lists.{from}
-use Rattle.lists.specs.Laws.Lists.{from_cong}
+use Rattle.lists.proofs.Laws.Lists.{from_cong}
 use Rattle.algebra.specs.Integers.{modℤ, Same}
 use Rattle.algebra.specs.Ring.{at, coef, nat, poly, blocks}
 use Rattle.algebra.specs.Halves.{conv}
-use Rattle.algebra.specs.Laws.Residues.{mod_of, same_eq, same_trans, same_add, same_neg}
-use Rattle.algebra.specs.Laws.Reduced.{at_nat}
-use Rattle.algebra.specs.Laws.Product.{coef_comm}
-use Rattle.algebra.specs.Laws.Vectors.{blocks_cong}
-use Rattle.algebra.specs.Laws.Halves.{split_conv}
-use Rattle.algebra.specs.Laws.Convolution.{conv_same, coef_conv}
+use Rattle.algebra.proofs.Laws.Residues.{mod_of, same_eq, same_trans, same_add, same_neg}
+use Rattle.algebra.proofs.Laws.Reduced.{at_nat}
+use Rattle.algebra.proofs.Laws.Product.{coef_comm}
+use Rattle.algebra.proofs.Laws.Vectors.{blocks_cong}
+use Rattle.algebra.proofs.Laws.Halves.{split_conv}
+use Rattle.algebra.proofs.Laws.Convolution.{conv_same, coef_conv}
 use Rattle.karatsuba_base.specs.Layout.{reads, offset, operand}
 use Rattle.karatsuba_split.specs.Ensures.{Halved}
 use Rattle.karatsuba_split.specs.Requires.{SplitScratch}

@@ -3,10 +3,10 @@ use Rattle.std.specs.Prelude.{◌≡◌, ℕ, ◌<◌, List, length, pos, refl}
 use Rattle.std.proofs.Common.{sym, ◌∙◌, ap, arith, take_all}
 use Rattle.std.proofs.Math.IntN.{+ℤ_idl}
 use Rattle.lists.specs.Lists.{from}
-use Rattle.lists.specs.Laws.Lists.{from_at, from_cong, length_from, map_from}
+use Rattle.lists.proofs.Laws.Lists.{from_at, from_cong, length_from, map_from}
 use Rattle.algebra.specs.Integers.{modℤ}
 use Rattle.algebra.specs.Ring.{at, coef, mul, nat, poly, blocks}
-use Rattle.algebra.specs.Laws.Reduced.{at_nat}
+use Rattle.algebra.proofs.Laws.Reduced.{at_nat}
 use Rattle.questions.specs.Answers.{written}
 use Rattle.ring.specs.Products.{product}
 use Rattle.ring.specs.Promises.{Multiplied}

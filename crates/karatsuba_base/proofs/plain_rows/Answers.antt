@@ -1,6 +1,6 @@
 -- `karatsuba_base::plain_rows` meets its contract: one row a turn.
 use Rattle.std.proofs.Common.{ℕ, ◌+◌, ◌*◌, List, get_or, refl, ap, ◌∙◌, arith, length-drop, length-take}
-use Rattle.lists.specs.Laws.Lists.{from_at}
+use Rattle.lists.proofs.Laws.Lists.{from_at}
 use Rattle.karatsuba_base.specs.Laws.Put.{part_at, put_part}
 use Rattle.karatsuba_base.specs.Laws.Base.{row_value, plain_row, plain_turn}
 use Rattle.karatsuba_base.proofs.plain_rows.Goals as goal

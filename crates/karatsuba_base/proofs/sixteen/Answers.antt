@@ -1,6 +1,6 @@
 -- `karatsuba_base::sixteen` meets its contract: one place a turn.
 use Rattle.std.proofs.Common.{arith}
-use Rattle.lists.specs.Laws.Fill.{fill_all}
+use Rattle.lists.proofs.Laws.Fill.{fill_all}
 use Rattle.karatsuba_base.proofs.sixteen.Goals as goal
 
 pub returns : goal.returns

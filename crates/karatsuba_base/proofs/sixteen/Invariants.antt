@@ -1,6 +1,6 @@
 -- `karatsuba_base::sixteen` meets its contract: one place a turn.
 use Rattle.std.proofs.Common.{ℕ, ◌+◌, ◌-◌, get_or}
-use Rattle.lists.specs.Laws.Fill.{Filled}
+use Rattle.lists.proofs.Laws.Fill.{Filled}
 use Rattle.karatsuba_base.proofs.sixteen.Given as goal
 
 abbrev pub invariant-loop-k : goal.invariant-loop-k

@@ -2,7 +2,7 @@
 use Rattle.std.proofs.Common.{◌≡◌, ℕ, ◌+◌, ◌-◌, ℤ, pos, ◌*ℤ◌, refl, arith}
 use Rattle.algebra.specs.Integers.{sum}
 use Rattle.algebra.specs.Halves.{window}
-use Rattle.algebra.specs.Laws.Residues.{same_refl}
+use Rattle.algebra.proofs.Laws.Residues.{same_refl}
 use Rattle.karatsuba_base.specs.Layout.{reads}
 use Rattle.karatsuba_base.specs.Laws.Base.{terms_more}
 use Rattle.karatsuba_base.proofs.terms.Goals as goal

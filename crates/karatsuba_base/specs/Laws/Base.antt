@@ -6,9 +6,9 @@ use Rattle.std.proofs.Math.Decide.{dec_lt}
 use Rattle.std.proofs.Math.ListN.{get_or-eq_default}
 use Rattle.algebra.specs.Integers.{sum, Same}
 use Rattle.algebra.specs.Halves.{conv, high, window, Degree}
-use Rattle.algebra.specs.Laws.Sums.{sum_next, sum_cong}
-use Rattle.algebra.specs.Laws.Residues.{same_eq, same_refl, same_trans, same_add, same_plus, same_times}
-use Rattle.algebra.specs.Laws.Convolution.{window_first, window_both, window_past}
+use Rattle.algebra.proofs.Laws.Sums.{sum_next, sum_cong}
+use Rattle.algebra.proofs.Laws.Residues.{same_eq, same_refl, same_trans, same_add, same_plus, same_times}
+use Rattle.algebra.proofs.Laws.Convolution.{window_first, window_both, window_past}
 use Rattle.karatsuba_base.specs.Layout.{reads, offset, operand, Blank, Apart}
 use Rattle.karatsuba_base.specs.Ensures.{Put, Lower, Upper, Plain}
 use Rattle.karatsuba_base.specs.Laws.Put.{here, else}

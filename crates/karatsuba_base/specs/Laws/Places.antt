@@ -3,7 +3,7 @@ use Rattle.std.specs.Prelude.{◌≡◌, ℕ, suc, ◌+◌, ◌*◌, ◌/◌, �
 use Rattle.std.proofs.Common.{sym, ◌∙◌, ap, mul-add, mul-suc, mul-le-mul_left, arith}
 use Rattle.std.proofs.Math.Decide.{dec_lt}
 use Rattle.algebra.specs.Halves.{low, high, Degree}
-use Rattle.algebra.specs.Laws.Halves.{low_below, low_past}
+use Rattle.algebra.proofs.Laws.Halves.{low_below, low_past}
 use Rattle.karatsuba_base.specs.Layout.{reads, offset, operand}
 
 pub offset_is : (s k : ℕ) → offset s k ≡ s * (k / 16) + k % 16

@@ -5,7 +5,7 @@ use Rattle.std.proofs.Math.Decide.{dec_lt}
 use Rattle.std.proofs.lemmas.List.{length-replicate, get_or-replicate}
 use Rattle.std.proofs.Math.ListN.{get_or-eq_default}
 use Rattle.lists.specs.Lists.{from}
-use Rattle.lists.specs.Laws.Lists.{from_at, length_from}
+use Rattle.lists.proofs.Laws.Lists.{from_at, length_from}
 use Rattle.karatsuba_base.specs.Ensures.{Put}
 
 -- the place that is written, and any other

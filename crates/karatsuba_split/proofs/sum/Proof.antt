@@ -1,6 +1,6 @@
 -- `karatsuba_split::sum` meets its contract: one place a turn.
 use Rattle.std.proofs.Common.{ℕ, ◌+◌, ◌-◌, ◌%◌, get_or, refl, arith, rules}
-use Rattle.lists.specs.Laws.Fill.{Filled, fill_none, fill_more, fill_all}
+use Rattle.lists.proofs.Laws.Fill.{Filled, fill_none, fill_more, fill_all}
 use Rattle.karatsuba_split.proofs.sum.Statement.{statement}
 use Rattle.karatsuba_split.proofs.sum.Tie as tie
 

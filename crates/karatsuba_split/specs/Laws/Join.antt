@@ -3,8 +3,8 @@ use Rattle.std.specs.Prelude.{◌≡◌, ℕ, ◌+◌, ◌-◌, ◌%◌, ◌<◌
 use Rattle.std.proofs.Common.{inl, inr, ◌∙◌, ap, arith, length-set}
 use Rattle.std.proofs.Math.Decide.{dec_lt}
 use Rattle.algebra.specs.Integers.{Same}
-use Rattle.algebra.specs.Laws.Whole.{eqℤ, add_split, up_neg, dn_neg}
-use Rattle.algebra.specs.Laws.Residues.{same_eq, same_trans, same_add, same_neg, same_plus, same_minus}
+use Rattle.algebra.proofs.Laws.Whole.{eqℤ, add_split, up_neg, dn_neg}
+use Rattle.algebra.proofs.Laws.Residues.{same_eq, same_trans, same_add, same_neg, same_plus, same_minus}
 use Rattle.karatsuba_base.specs.Layout.{reads}
 use Rattle.karatsuba_base.specs.Ensures.{Put}
 use Rattle.karatsuba_split.specs.Layout.{second, third}

@@ -5,8 +5,8 @@ use Rattle.std.proofs.Math.Decide.{dec_lt}
 use Rattle.std.proofs.Math.Nat.{two-pow-succ}
 use Rattle.algebra.specs.Integers.{Same}
 use Rattle.algebra.specs.Halves.{plus, low, high, joined, split, Degree}
-use Rattle.algebra.specs.Laws.Residues.{same_eq, same_trans, same_add, same_neg, same_plus}
-use Rattle.algebra.specs.Laws.Halves.{low_past, split_more, split_past, split_same, quarter0, quarter1, quarter2, quarter3}
+use Rattle.algebra.proofs.Laws.Residues.{same_eq, same_trans, same_add, same_neg, same_plus}
+use Rattle.algebra.proofs.Laws.Halves.{low_past, split_more, split_past, split_same, quarter0, quarter1, quarter2, quarter3}
 use Rattle.karatsuba_base.specs.Layout.{reads, offset, operand, Blank, Apart}
 use Rattle.karatsuba_base.specs.Ensures.{Put}
 use Rattle.karatsuba_split.specs.Ensures.{Joined, Halved}

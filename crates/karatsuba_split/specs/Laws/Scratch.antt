@@ -4,7 +4,7 @@ use Rattle.std.proofs.Common.{inl, inr, mul-add, mul-le-mul_left, mul-one, arith
 use Rattle.std.proofs.Math.Nat.{one-le-pow, two-pow-succ}
 use Rattle.algebra.specs.Integers.{Same}
 use Rattle.algebra.specs.Halves.{split}
-use Rattle.algebra.specs.Laws.Halves.{split_conv}
+use Rattle.algebra.proofs.Laws.Halves.{split_conv}
 use Rattle.karatsuba_base.specs.Layout.{reads, offset, operand, Blank, Apart}
 use Rattle.karatsuba_base.specs.Ensures.{Plain}
 use Rattle.karatsuba_base.specs.Requires.{PlainScratch}

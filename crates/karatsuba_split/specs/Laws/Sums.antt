@@ -2,7 +2,7 @@
 use Rattle.std.specs.Prelude.{◌≡◌, ℕ, ◌+◌, ◌%◌, ◌<◌, ◌≤◌, List, length, slice_index}
 use Rattle.std.proofs.Common.{◌∙◌, ap, ap₂, arith}
 use Rattle.lists.specs.Lists.{from}
-use Rattle.lists.specs.Laws.Lists.{from_at, length_from}
+use Rattle.lists.proofs.Laws.Lists.{from_at, length_from}
 use Rattle.karatsuba_base.specs.Ensures.{Put}
 use Rattle.karatsuba_base.specs.Laws.Put.{put_next, put_to}
 

@@ -1,7 +1,7 @@
 -- A law of the hashes: the coins are the second half.
 use Rattle.std.specs.Prelude.{ℕ, List, ◌≡◌, length, take, drop}
 use Rattle.std.proofs.Common.{ap, ◌∙◌}
-use Rattle.lists.specs.Laws.Parts.{last_part}
+use Rattle.lists.proofs.Laws.Parts.{last_part}
 use Rattle.sponge.specs.Laws.Sponge.{length_sponge}
 use Rattle.sha3.specs.Hashes.{sha3_512}
 

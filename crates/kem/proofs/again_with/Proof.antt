@@ -1,6 +1,6 @@
 -- `kem::again_with` meets its contract: the steps of the definition, one after another, on the parts of the secret key.
 use borrow.Author.Rules.{rules}
-use Rattle.lists.specs.Laws.Parts.{first_part, mid_part}
+use Rattle.lists.proofs.Laws.Parts.{first_part, mid_part}
 use Rattle.kdf.specs.Laws.Kdf.{coins_part}
 use Rattle.kem.specs.Laws.Kem.{again_steps}
 use Rattle.kem.proofs.again_with.Statement.{statement}

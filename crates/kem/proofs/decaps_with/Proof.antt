@@ -3,7 +3,7 @@ use Prim.Native.Nat.{◌+◌, ◌*◌}
 use mathlib.Core.Path.{refl}
 use native.Mathlib.Omega.{arith}
 use borrow.Author.Rules.{rules}
-use Rattle.lists.specs.Laws.Parts.{last_part}
+use Rattle.lists.proofs.Laws.Parts.{last_part}
 use Rattle.kem.specs.Laws.Kem.{decaps_steps}
 use Rattle.kem.proofs.decaps_with.Statement.{statement}
 use Rattle.kem.proofs.decaps_with.Tie as tie

@@ -2,7 +2,7 @@
 use Rattle.std.specs.Prelude.{ℕ, ◌*◌, cond, List, ◌++◌, ◌≡◌, length, take, drop}
 use Rattle.std.proofs.Common.{sym, ap, ◌∙◌}
 use Rattle.lists.specs.Strings.{same, placed}
-use Rattle.lists.specs.Laws.Strings.{placed_whole}
+use Rattle.lists.proofs.Laws.Strings.{placed_whole}
 use Rattle.questions.specs.Answers.{earliest}
 use Rattle.sets.specs.declared.Params.{Params}
 use Rattle.sets.specs.Sets.{params_of}

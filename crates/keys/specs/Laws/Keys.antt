@@ -4,8 +4,8 @@ use Rattle.std.proofs.Common.{append_assoc, sym, ap, ◌∙◌, arith, eqb-true}
 use Rattle.std.proofs.Math.Nat.{add-sub_cancel_left}
 use Rattle.lists.specs.Numbers.{Below}
 use Rattle.lists.specs.Strings.{placed}
-use Rattle.lists.specs.Laws.Parts.{prefix_none, prefix_copy, prefix_all}
-use Rattle.lists.specs.Laws.Strings.{placed_two}
+use Rattle.lists.proofs.Laws.Parts.{prefix_none, prefix_copy, prefix_all}
+use Rattle.lists.proofs.Laws.Strings.{placed_two}
 use Rattle.questions.specs.Answers.{earliest}
 use Rattle.questions.specs.Laws.Answers.{all_yes, accepted}
 use Rattle.sets.specs.declared.Params.{Params}
@@ -15,7 +15,7 @@ use Rattle.scheme_questions.specs.Questions.{keygen_questions}
 use Rattle.sponge.specs.Laws.Sponge.{length_sponge}
 use Rattle.sha3.specs.Hashes.{shake128, sha3_256}
 use Rattle.algebra.specs.Ring.{nat, residues}
-use Rattle.algebra.specs.Laws.Reduced.{residues_below}
+use Rattle.algebra.proofs.Laws.Reduced.{residues_below}
 use Rattle.packing.specs.Packing.{packed}
 use Rattle.packing.specs.Laws.Polynomials.{length_packed}
 use Rattle.sampling.specs.Sampling.{secret}

@@ -7,7 +7,7 @@ use native.Mathlib.Omega.{arith}
 use lib.ListN.{length, get_or, drop, length-drop}
 use lib.Seq.{drop-length}
 use Rattle.lists.specs.Numbers.{Below, number}
-use Rattle.lists.specs.Laws.Numbers.{below_drop, number_more, number_lt}
+use Rattle.lists.proofs.Laws.Numbers.{below_drop, number_more, number_lt}
 use Rattle.little_endian.proofs.load.Goals as goal
 
 -- the number with the byte that a turn reads: it is that of one byte more, of which there are few enough

@@ -6,7 +6,7 @@ use native.Mathlib.Omega.{arith}
 use native.Mathlib.Numerals.{add-one, add-two, add-three}
 use lib.ListN.{length, get_or, take, drop}
 use Rattle.lists.specs.Numbers.{number}
-use Rattle.lists.specs.Laws.Numbers.{number_next}
+use Rattle.lists.proofs.Laws.Numbers.{number_next}
 use Rattle.little_endian.proofs.load32.Goals as goal
 
 word_is :

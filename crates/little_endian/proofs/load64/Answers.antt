@@ -1,6 +1,6 @@
 -- `little_endian::load64` meets its contract: the four higher bytes stand above the four lower ones.
 use native.Mathlib.Omega.{arith}
-use Rattle.lists.specs.Laws.Numbers.{number_parts}
+use Rattle.lists.proofs.Laws.Numbers.{number_parts}
 use Rattle.little_endian.proofs.load64.Goals as goal
 
 pub returns : goal.returns

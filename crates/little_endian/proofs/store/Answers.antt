@@ -1,8 +1,8 @@
 -- `little_endian::store` meets its contract: after i turns the first i bytes are the number's.
 use mathlib.Core.Path.{refl, sym, ◌∙◌}
 use native.Mathlib.Omega.{arith}
-use Rattle.lists.specs.Laws.Fill.{fill_none, fill_more, fill_all}
-use Rattle.lists.specs.Laws.Numbers.{digits_from, pow_mul}
+use Rattle.lists.proofs.Laws.Fill.{fill_none, fill_more, fill_all}
+use Rattle.lists.proofs.Laws.Numbers.{digits_from, pow_mul}
 use Rattle.little_endian.proofs.store.Goals as goal
 
 pub loop-i-init : goal.loop-i-init

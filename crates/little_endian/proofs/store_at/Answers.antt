@@ -5,8 +5,8 @@ use native.Mathlib.Omega.{arith}
 use lib.ListN.{length}
 use borrow.Rule.Slice.PartMut.{mid_of, mid_len}
 use Rattle.lists.specs.Numbers.{digits}
-use Rattle.lists.specs.Laws.Numbers.{length_digits}
-use Rattle.lists.specs.Laws.Parts.{put_placed}
+use Rattle.lists.proofs.Laws.Numbers.{length_digits}
+use Rattle.lists.proofs.Laws.Parts.{put_placed}
 use Rattle.little_endian.proofs.store_at.Goals as goal
 
 pub returns : goal.returns

@@ -7,7 +7,7 @@ use Rattle.lists.specs.Numbers.{Below}
 use Rattle.lists.specs.Strings.{placed}
 use Rattle.questions.specs.Laws.Bounds.{all_below_at}
 use Rattle.algebra.specs.Ring.{nat, residues, blocks}
-use Rattle.algebra.specs.Laws.Vectors.{blocks_append, length_blocks}
+use Rattle.algebra.proofs.Laws.Vectors.{blocks_append, length_blocks}
 use Rattle.packing.specs.Packing.{packed}
 use Rattle.packing_vector.specs.Requires.{PlacesLengths}
 use Rattle.packing_vector.specs.Laws.Places.{packed_more}
@@ -15,7 +15,7 @@ use Rattle.packing.specs.Laws.Polynomials.{length_packed}
 use Rattle.rounding.specs.Rounding.{round}
 use Rattle.rounding.specs.Laws.Rounding.{round_below}
 use Rattle.algebra.specs.Vectors.{side, matrix_row, matrix_vector}
-use Rattle.algebra.specs.Laws.Matrices.{matrix_secret, length_row, length_matrix_vector}
+use Rattle.algebra.proofs.Laws.Matrices.{matrix_secret, length_row, length_matrix_vector}
 use Rattle.sampling.specs.Sampling.{matrix}
 use Rattle.lwr.specs.Lwr.{rounded_vector}
 

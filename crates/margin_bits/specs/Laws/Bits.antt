@@ -4,7 +4,7 @@ use Rattle.std.proofs.Math.Path.{ap₂}
 use native.Mathlib.Omega.{arith}
 use Rattle.std.proofs.Math.ListN.{length}
 use Rattle.std.proofs.Common.{drop_of_length-le}
-use Rattle.lists.specs.Laws.Lists.{drop_next}
+use Rattle.lists.proofs.Laws.Lists.{drop_next}
 use Rattle.margin_bits.specs.Bits.{differing}
 
 module _ (a b : List ℕ) (long : length a ≡ length b) (i : ℕ) where

@@ -13,9 +13,9 @@ use Rattle.packing.specs.Packing.{unpacked}
 use Rattle.keys.specs.Laws.Parts.{plain_in}
 use Rattle.kdf.specs.Kdf.{message_of}
 use Rattle.noise.specs.Noise.{Lies, Within, bound}
-use Rattle.noise.specs.Laws.Errors.{sub_split, one_sign}
+use Rattle.noise.proofs.Laws.Errors.{sub_split, one_sign}
 use Rattle.correctness.specs.Claim.{NoiseWithin}
-use Rattle.correctness.specs.Laws.Steps.{returned}
+use Rattle.correctness.proofs.Laws.Steps.{returned}
 use Rattle.margin_noise.specs.Norm
 use Rattle.margin_noise.specs.Laws.Bounds.{lies_magnitude, norm_bound, no_larger}
 use Rattle.margin_bits.specs.Bits.{differing}

@@ -2,7 +2,7 @@
 use Rattle.std.specs.Prelude.{ℕ, ◌+◌, ◌<◌, ◌≤◌, List, ◌≡◌, length, get_or, drop}
 use Rattle.std.proofs.Math.Path.{ap}
 use Rattle.std.proofs.Common.{arith, drop_of_length-le}
-use Rattle.lists.specs.Laws.Lists.{drop_next}
+use Rattle.lists.proofs.Laws.Lists.{drop_next}
 use Rattle.margin_group.specs.Margin.{total}
 
 module _ (xs : List ℕ) (i : ℕ) where

@@ -2,7 +2,7 @@
 use Rattle.std.specs.Prelude.{ℕ, ◌*◌, ◌%◌, ◌<◌, ◌≤◌, Bool, cond, List, ◌++◌, ◌≡◌, length, take, drop}
 use Rattle.std.proofs.Common.{sym, ap, ◌∙◌, arith, le-ltb, length-append, length-drop}
 use Rattle.std.proofs.lemmas.List.{take-append-le, drop-append-le}
-use Rattle.lists.specs.Laws.Lists.{from_cong}
+use Rattle.lists.proofs.Laws.Lists.{from_cong}
 use Rattle.sets.specs.declared.Params.{Params}
 use Rattle.margin_group.specs.Margin.{cases, groups, rest, least, wrong}
 

@@ -2,12 +2,12 @@
 use Rattle.std.specs.Prelude.{ℕ, ◌+◌, ◌*◌, ◌-◌, ◌/◌, ◌<◌, List, ◌≡◌, ℤ, length, take, drop}
 use Rattle.std.proofs.Common.{ap, ◌∙◌, arith}
 use Rattle.std.proofs.lemmas.List.{length-map}
-use Rattle.lists.specs.Laws.Parts.{first_part, last_part}
+use Rattle.lists.proofs.Laws.Parts.{first_part, last_part}
 use Rattle.sets.specs.declared.Params.{Params}
 use Rattle.sets.specs.Sets.{added}
 use Rattle.sets.specs.Requires.{IsSet}
 use Rattle.algebra.specs.Ring.{nat, poly}
-use Rattle.algebra.specs.Laws.Product.{length_inner}
+use Rattle.algebra.proofs.Laws.Product.{length_inner}
 use Rattle.packing.specs.Packing.{unpacked}
 use Rattle.packing.specs.Laws.Packing.{recut_length}
 use Rattle.packing.specs.Laws.Polynomials.{length_packed}

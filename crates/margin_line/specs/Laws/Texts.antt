@@ -7,7 +7,7 @@ use Rattle.std.proofs.Math.Decide.{dec_lt}
 use native.Mathlib.Omega.{arith}
 use Rattle.lists.specs.Lists.{from}
 use Rattle.lists.specs.Strings.{placed}
-use Rattle.lists.specs.Laws.Strings.{placed_next}
+use Rattle.lists.proofs.Laws.Strings.{placed_next}
 use Rattle.sets.specs.declared.Params.{Params}
 use Rattle.decimals.specs.Decimals.{decimal}
 use Rattle.decimals.specs.Signed.{minus, number_text}

@@ -1,7 +1,7 @@
 -- `margin_noise::errors_in` meets its contract: the places passed hold errors, the others are as they were.
 use Rattle.std.proofs.Common.{refl, ap, ◌∙◌, arith, get_or-set_other}
-use Rattle.lists.specs.Laws.Fill.{fill_none, fill_more, fill_all}
-use Rattle.lists.specs.Laws.Lists.{from_map}
+use Rattle.lists.proofs.Laws.Fill.{fill_none, fill_more, fill_all}
+use Rattle.lists.proofs.Laws.Lists.{from_map}
 use Rattle.margin_noise.proofs.errors_in.Invariants.{word}
 use Rattle.margin_noise.proofs.errors_in.Goals as goal
 

@@ -1,6 +1,6 @@
 -- `margin_noise::errors_in` meets its contract: the places passed hold errors, the others are as they were.
 use Rattle.std.proofs.Common.{◌≡◌, ℕ, ◌-◌, ◌≤◌, length, get_or, pos}
-use Rattle.lists.specs.Laws.Fill.{Filled}
+use Rattle.lists.proofs.Laws.Fill.{Filled}
 use Rattle.algebra.specs.Integers.{modℤ}
 use Rattle.noise.specs.Noise.{error}
 use Rattle.margin_noise.proofs.errors_in.Given as goal

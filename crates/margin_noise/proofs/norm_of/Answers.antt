@@ -1,7 +1,7 @@
 -- `margin_noise::norm_of` meets its contract: the largest magnitude so far, and the numbers that are left.
 use Rattle.std.proofs.Common.{max, pos, nat_abs, sym, ap, ◌∙◌, arith}
 use Rattle.lists.specs.Lists.{from}
-use Rattle.lists.specs.Laws.Lists.{from_at, length_from}
+use Rattle.lists.proofs.Laws.Lists.{from_at, length_from}
 use Rattle.margin_noise.specs.Laws.Exact.{norm_none, norm_more, norm_all}
 use Rattle.margin_noise.proofs.norm_of.Invariants.{near}
 use Rattle.margin_noise.proofs.norm_of.Goals as goal

@@ -6,10 +6,10 @@ use Rattle.std.proofs.Math.Nat.{add-mul}
 use native.Mathlib.Omega.{arith}
 use Rattle.algebra.specs.Integers.{up, dn, sum}
 use Rattle.algebra.specs.Ring.{at, coef, inner}
-use Rattle.algebra.specs.Laws.Whole.{add_split, up_mul, dn_mul, up_neg, dn_neg}
-use Rattle.algebra.specs.Laws.Product.{at_inner}
+use Rattle.algebra.proofs.Laws.Whole.{add_split, up_mul, dn_mul, up_neg, dn_neg}
+use Rattle.algebra.proofs.Laws.Product.{at_inner}
 use Rattle.noise.specs.Noise.{Lies, transposed, e, e'}
-use Rattle.noise.specs.Laws.Errors.{errors_range, one_sign}
+use Rattle.noise.proofs.Laws.Errors.{errors_range, one_sign}
 use Rattle.margin_noise.specs.Norm.{norm}
 use Rattle.margin_noise.specs.Requires.{Small}
 

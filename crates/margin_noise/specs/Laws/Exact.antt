@@ -6,17 +6,17 @@ use Rattle.std.proofs.Math.Decide.{dec_lt}
 use Rattle.std.proofs.lemmas.List.{length-map}
 use Rattle.std.proofs.Math.ListN.{get_or-eq_default}
 use Rattle.lists.specs.Lists.{from}
-use Rattle.lists.specs.Laws.Lists.{drop_next, from_at, from_cong, length_from}
+use Rattle.lists.proofs.Laws.Lists.{drop_next, from_at, from_cong, length_from}
 use Rattle.algebra.specs.Integers.{modℤ, Same}
 use Rattle.algebra.specs.Ring.{at, inner, nat, residues, poly, blocks}
-use Rattle.algebra.specs.Laws.Residues.{mod_of, mod_bound, same_residue, same_sym, same_trans, same_add, same_neg, same_minus}
-use Rattle.algebra.specs.Laws.Reduced.{at_residues, residues_nat, residues_coarser, inner_residues}
-use Rattle.algebra.specs.Laws.Product.{length_inner, inner_cong}
-use Rattle.algebra.specs.Laws.Vectors.{length_poly, blocks_cong, map_blocks, poly_blocks}
+use Rattle.algebra.proofs.Laws.Residues.{mod_of, mod_bound, same_residue, same_sym, same_trans, same_add, same_neg, same_minus}
+use Rattle.algebra.proofs.Laws.Reduced.{at_residues, residues_nat, residues_coarser, inner_residues}
+use Rattle.algebra.proofs.Laws.Product.{length_inner, inner_cong}
+use Rattle.algebra.proofs.Laws.Vectors.{length_poly, blocks_cong, map_blocks, poly_blocks}
 use Rattle.algebra.specs.Vectors.{entry, side, inner_mod, matrix_row, matrix_vector}
-use Rattle.algebra.specs.Laws.Matrices.{same_inner}
+use Rattle.algebra.proofs.Laws.Matrices.{same_inner}
 use Rattle.noise.specs.Noise.{around, error, times, errors, e, e', noise}
-use Rattle.noise.specs.Laws.Errors.{error_is, around_is}
+use Rattle.noise.proofs.Laws.Errors.{error_is, around_is}
 use Rattle.margin_noise.specs.Norm.{norm}
 use Rattle.margin_noise.specs.Requires.{Small}
 use Rattle.margin_noise.specs.Laws.Bounds.{magnitude_is, noise_bound, norm_bound}

@@ -3,7 +3,7 @@ use native.Mathlib.Omega.{arith}
 use borrow.Author.Rules.{rules}
 use lib.Dec.{ltb}
 use Rattle.lists.specs.Lists.{from}
-use Rattle.lists.specs.Laws.Booleans.{and_right}
+use Rattle.lists.proofs.Laws.Booleans.{and_right}
 use Rattle.sets.specs.Sets.{known}
 use Rattle.sets.specs.Requires.{IsSet}
 use Rattle.sets.specs.Laws.Sets.{is_set_lem}

@@ -2,7 +2,7 @@
 use mathlib.Core.Path.{refl, sym, ◌∙◌}
 use borrow.Author.Rules.{rules}
 use lib.ListN.{length}
-use Rattle.lists.specs.Laws.Parts.{last_part}
+use Rattle.lists.proofs.Laws.Parts.{last_part}
 use Rattle.margin_text.specs.Laws.Texts.{report_none, report_other, report_set, whole}
 use Rattle.margin_text.proofs.report.Statement.{statement}
 use Rattle.margin_text.proofs.report.Tie as tie

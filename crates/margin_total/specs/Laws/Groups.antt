@@ -10,14 +10,14 @@ use native.Mathlib.Omega.{arith}
 use Rattle.std.proofs.lemmas.List.{length-map}
 use Rattle.std.specs.Int.Signed.{lt_z}
 use Rattle.lists.specs.Lists.{from}
-use Rattle.lists.specs.Laws.Lists.{from_at, length_from, map_from}
-use Rattle.lists.specs.Laws.Parts.{mid_part}
+use Rattle.lists.proofs.Laws.Lists.{from_at, length_from, map_from}
+use Rattle.lists.proofs.Laws.Parts.{mid_part}
 use Rattle.sets.specs.declared.Params.{Params}
 use Rattle.algebra.specs.Integers.{up, dn}
 use Rattle.algebra.specs.Ring.{at, nat}
-use Rattle.algebra.specs.Laws.Reduced.{at_nat}
+use Rattle.algebra.proofs.Laws.Reduced.{at_nat}
 use Rattle.noise.specs.Noise.{bound}
-use Rattle.noise.specs.Laws.Errors.{sub_split}
+use Rattle.noise.proofs.Laws.Errors.{sub_split}
 use Rattle.margin_noise.specs.Ensures.{least_of}
 use Rattle.margin_noise.specs.Norm.{norm}
 use Rattle.margin_noise.specs.Laws.Exact.{norm_none, norm_more, norm_all}

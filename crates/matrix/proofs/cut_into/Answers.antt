@@ -1,6 +1,6 @@
 -- `matrix::cut_into` meets its contract: after i turns the first i polynomials stand one behind another.
 use Rattle.std.proofs.Common.{◌≡◌, ◌+◌, ◌*◌, ◌<◌, arith, mul-le-mul_left, mul-suc, add-one}
-use Rattle.lists.specs.Laws.Parts.{prefix_none, prefix_part}
+use Rattle.lists.proofs.Laws.Parts.{prefix_none, prefix_part}
 use Rattle.algebra.specs.Ring.{blocks}
 use Rattle.matrix.specs.Laws.Rows.{before_last, cut_part}
 use Rattle.matrix.proofs.cut_into.Goals as goal

@@ -1,6 +1,6 @@
 -- `matrix::cut_into` meets its contract: after i turns the first i polynomials stand one behind another.
 use Rattle.std.proofs.Common.{◌≤◌, ◌+◌, ◌*◌, ◌-◌, length}
-use Rattle.lists.specs.Laws.Parts.{Prefix}
+use Rattle.lists.proofs.Laws.Parts.{Prefix}
 use Rattle.algebra.specs.Ring.{poly, blocks}
 use Rattle.packing.specs.Packing.{unpacked}
 use Rattle.matrix.proofs.cut_into.Given as goal

@@ -1,9 +1,9 @@
 -- `matrix::product_into` meets its contract: after each turn the first i rows stand one behind another, and zeros behind them.
 use Rattle.std.proofs.Common.{ℕ, ◌≡◌, ◌+◌, ◌*◌, ◌-◌, ◌<◌, ◌≤◌, length, refl, ◌∙◌, arith, mul-add, length-take, length-drop}
 use borrow.Rule.Slice.PartMut.{same_len_mid}
-use Rattle.lists.specs.Laws.Parts.{prefix_none, prefix_part, prefix_all}
+use Rattle.lists.proofs.Laws.Parts.{prefix_none, prefix_part, prefix_all}
 use Rattle.algebra.specs.Ring.{nat, blocks}
-use Rattle.algebra.specs.Laws.Vectors.{blocks_append}
+use Rattle.algebra.proofs.Laws.Vectors.{blocks_append}
 use Rattle.packing.specs.Packing.{unpacked}
 use Rattle.algebra.specs.Vectors.{matrix_row, matrix_vector, side}
 use Rattle.matrix.specs.Laws.Zeros.{zeros_long, zeros_behind, zeros_part, zeros_left}

@@ -1,6 +1,6 @@
 -- `matrix::product_into` meets its contract: after each turn the first i rows stand one behind another, and zeros behind them.
 use Rattle.std.proofs.Common.{ℕ, ◌≤◌, ◌*◌, ◌-◌, List, ◌≡◌, length, drop, replicate}
-use Rattle.lists.specs.Laws.Parts.{Prefix}
+use Rattle.lists.proofs.Laws.Parts.{Prefix}
 use Rattle.algebra.specs.Ring.{nat, blocks}
 use Rattle.packing.specs.Packing.{unpacked}
 use Rattle.algebra.specs.Vectors.{matrix_row, side}

@@ -4,16 +4,16 @@ use Rattle.std.proofs.Math.Path.{refl, ap, fun_ext}
 use Rattle.std.proofs.Common.{sym, ◌∙◌, mul-le-mul, mul-le-mul_left, le_refl, arith, length-take, length-drop}
 use Rattle.std.proofs.Math.Nat.{mul-add}
 use Rattle.lists.specs.Numbers.{Below}
-use Rattle.lists.specs.Laws.Parts.{mid_part}
+use Rattle.lists.proofs.Laws.Parts.{mid_part}
 use Rattle.algebra.specs.Ring.{inner, nat, poly, blocks}
-use Rattle.algebra.specs.Laws.Vectors.{blocks_cong, map_blocks}
+use Rattle.algebra.proofs.Laws.Vectors.{blocks_cong, map_blocks}
 use Rattle.packing.specs.Packing.{unpacked}
 use Rattle.packing.specs.Laws.Packing.{recut_length}
 use Rattle.packing.specs.Laws.Polynomials.{unpacked_part}
 use Rattle.ring.specs.Products.{is_modulus}
 use Rattle.ring.specs.Laws.Products.{reduced}
 use Rattle.algebra.specs.Vectors.{inner_mod, matrix_row, side}
-use Rattle.algebra.specs.Laws.Matrices.{strided, within}
+use Rattle.algebra.proofs.Laws.Matrices.{strided, within}
 use Rattle.matrix.specs.Ensures.{sums}
 
 -- packed polynomials are no more than their bytes

@@ -10,13 +10,13 @@ use Rattle.std.proofs.Math.IntN.{pos}
 use Rattle.std.proofs.Math.ListN.{length-map}
 use Rattle.std.proofs.lemmas.List.{replicate-append-replicate}
 use Rattle.lists.specs.Lists.{from}
-use Rattle.lists.specs.Laws.Lists.{map_from}
-use Rattle.lists.specs.Laws.Parts.{mid_part}
+use Rattle.lists.proofs.Laws.Lists.{map_from}
+use Rattle.lists.proofs.Laws.Parts.{mid_part}
 use Rattle.algebra.specs.Integers.{modℤ, sum}
 use Rattle.algebra.specs.Ring.{inner, nat, poly, blocks}
-use Rattle.algebra.specs.Laws.Product.{length_inner}
-use Rattle.algebra.specs.Laws.Reduced.{inner_more}
-use Rattle.algebra.specs.Laws.Vectors.{poly_map, poly_blocks, blocks_cong}
+use Rattle.algebra.proofs.Laws.Product.{length_inner}
+use Rattle.algebra.proofs.Laws.Reduced.{inner_more}
+use Rattle.algebra.proofs.Laws.Vectors.{poly_map, poly_blocks, blocks_cong}
 use Rattle.karatsuba.specs.Ensures.{rows_added}
 use Rattle.algebra.specs.Vectors.{inner_mod}
 use Rattle.matrix.specs.Ensures.{sums}

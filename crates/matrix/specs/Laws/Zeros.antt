@@ -3,7 +3,7 @@ use Rattle.std.specs.Prelude.{ℕ, ◌+◌, ◌-◌, ◌≤◌, List, ◌++◌, 
 use Rattle.std.proofs.Common.{sym, ◌∙◌, ap, arith, take_at, drop_at, drop-drop}
 use borrow.Rule.Slice.PartMut.{put_mid, mid_of, mid_len, drop_put}
 use Rattle.std.proofs.lemmas.List.{length-replicate, replicate-append-replicate}
-use Rattle.lists.specs.Laws.Parts.{first_part, mid_part}
+use Rattle.lists.proofs.Laws.Parts.{first_part, mid_part}
 
 pub zeros_long : (n : ℕ) {s : List ℕ} → s ≡ replicate n 0 → length s ≡ n
 zeros_long n e = ap length e ∙ length-replicate n 0

@@ -10,8 +10,8 @@ use lib.Pow.{pow_mono}
 use lib.Seq.{drop-cons}
 use Rattle.lists.specs.Numbers.{number, digits}
 use Rattle.lists.specs.Strings.{placed}
-use Rattle.lists.specs.Laws.Numbers.{length_digits}
-use Rattle.lists.specs.Laws.Strings.{placed_next}
+use Rattle.lists.proofs.Laws.Numbers.{length_digits}
+use Rattle.lists.proofs.Laws.Strings.{placed_next}
 use Rattle.packing.specs.Laws.Cutting.{Cutting, start, read, write, to_write, done}
 use Rattle.packing.proofs.pack_into.Invariants.{Turn}
 use Rattle.packing.proofs.pack_into.Goals as goal

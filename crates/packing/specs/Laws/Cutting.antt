@@ -7,7 +7,7 @@ use Rattle.std.proofs.Math.ListN.{length}
 use Rattle.std.proofs.Math.Pow.{add-lt-pow}
 use Rattle.std.proofs.Math.Seq.{take_all}
 use Rattle.lists.specs.Numbers.{number, digits}
-use Rattle.lists.specs.Laws.Numbers.{digits_split, number_split, pow_mul}
+use Rattle.lists.proofs.Laws.Numbers.{digits_split, number_split, pow_mul}
 use Rattle.packing.specs.Packing.{recut}
 use Rattle.packing.specs.Laws.Packing.{recut_count}
 

@@ -3,7 +3,7 @@ use Rattle.std.specs.Prelude.{ℕ, ◌*◌, ◌≤◌, Bool, true, ◌||◌, Lis
 use Rattle.std.proofs.Common.{⊎_elim, arith, rules, eqb-true}
 use Rattle.questions.specs.Answers.{earliest}
 use Rattle.questions.specs.Laws.Answers.{all_yes}
-use Rattle.lists.specs.Laws.Booleans.{or_cases}
+use Rattle.lists.proofs.Laws.Booleans.{or_cases}
 use Rattle.packing.specs.Packing.{is_width, pack_questions, unpack_questions}
 use Rattle.packing.specs.Requires.{Fills}
 use Rattle.packing.specs.Laws.Packing.{polynomials_fill}

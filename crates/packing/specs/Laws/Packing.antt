@@ -4,8 +4,8 @@ use Rattle.std.proofs.Common.{sym, ap, ◌∙◌, arith, div-lt_iff_lt-mul, mod-
 use Rattle.std.proofs.Math.Nat.{add-mul-div_left, add-mul-mod_self_left, div-add-mod, div-eq_of_lt, mul-add, mul-add-div, mul-div_right, pow-succ', zero-add}
 use Rattle.std.proofs.Math.ListN.{length, length-append}
 use Rattle.lists.specs.Numbers.{number, Below}
-use Rattle.lists.specs.Laws.Numbers.{length_digits, below_take, digits_below, digits_number, digits_split, number_digits, number_lt, number_append}
-use Rattle.lists.specs.Laws.Numbers.{number_split, pow_mul}
+use Rattle.lists.proofs.Laws.Numbers.{length_digits, below_take, digits_below, digits_number, digits_split, number_digits, number_lt, number_append}
+use Rattle.lists.proofs.Laws.Numbers.{number_split, pow_mul}
 use Rattle.packing.specs.Packing.{recut, packed, unpacked, bit, stream_bit}
 use Rattle.packing.specs.Requires.{Fills}
 

@@ -2,7 +2,7 @@
 use Rattle.std.specs.Prelude.{ℕ, ◌+◌, ◌-◌, ◌*◌, ◌^◌, ◌<◌, ◌≤◌, List, ◌++◌, ◌≡◌, length, take, drop}
 use Rattle.std.proofs.Common.{sym, ap, ◌∙◌, mul-suc, mul-le-mul_left, arith, length-drop, take-append-drop, take_at, drop_at, length-take-le}
 use Rattle.lists.specs.Numbers.{Below}
-use Rattle.lists.specs.Laws.Numbers.{below_take, below_drop}
+use Rattle.lists.proofs.Laws.Numbers.{below_take, below_drop}
 use Rattle.packing.specs.Packing.{packed, unpacked}
 use Rattle.packing.specs.Laws.Packing.{recut_length, recut_append, unpacked_packed}
 

@@ -2,7 +2,7 @@
 use Prim.Native.Nat.{◌*◌}
 use native.Mathlib.Omega.{arith}
 use lib.ListN.{length-take, length-drop}
-use Rattle.lists.specs.Laws.Parts.{put_placed}
+use Rattle.lists.proofs.Laws.Parts.{put_placed}
 use Rattle.packing.specs.Laws.Packing.{polynomials_fill}
 use Rattle.packing_vector.specs.Laws.Places.{size}
 use Rattle.packing_vector.proofs.pack_at.Goals as goal

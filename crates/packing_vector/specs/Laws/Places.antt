@@ -4,8 +4,8 @@ use Rattle.std.proofs.Common.{◌∙◌, arith, mul-zero, length-drop, take-add,
 use Rattle.std.proofs.Math.Seq.{paste-zero}
 use Rattle.lists.specs.Numbers.{digits, Below}
 use Rattle.lists.specs.Strings.{placed}
-use Rattle.lists.specs.Laws.Numbers.{below_take}
-use Rattle.lists.specs.Laws.Strings.{placed_there, placed_outside, placed_more}
+use Rattle.lists.proofs.Laws.Numbers.{below_take}
+use Rattle.lists.proofs.Laws.Strings.{placed_there, placed_outside, placed_more}
 use Rattle.packing.specs.Packing.{recut, packed, unpacked}
 use Rattle.packing_vector.specs.Requires.{PlaceLengths}
 use Rattle.packing.specs.Laws.Packing.{recut_append}

@@ -1,6 +1,6 @@
 -- `pke::encrypt_with` meets its contract: the two parts of the ciphertext, each written at its place, are those of the definition.
 use Prim.Native.Nat.{◌*◌}
-use Rattle.lists.specs.Laws.Parts.{first_part, last_part}
+use Rattle.lists.proofs.Laws.Parts.{first_part, last_part}
 use Rattle.pke.specs.Laws.Pke.{encrypt_steps}
 use Rattle.pke.proofs.encrypt_with.Goals as goal
 

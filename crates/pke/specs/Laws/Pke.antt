@@ -2,7 +2,7 @@
 use Rattle.std.specs.Prelude.{ℕ, ◌*◌, false, List, ◌≡◌, length, take, drop}
 use Rattle.std.proofs.Common.{sym, ◌∙◌, arith}
 use Rattle.lists.specs.Strings.{placed}
-use Rattle.lists.specs.Laws.Strings.{placed_two, placed_whole}
+use Rattle.lists.proofs.Laws.Strings.{placed_two, placed_whole}
 use Rattle.questions.specs.Answers.{earliest}
 use Rattle.sets.specs.declared.Params.{Params}
 use Rattle.sets.specs.Sets.{params_of, added}
@@ -12,7 +12,7 @@ use Rattle.algebra.specs.Ring.{nat, residues}
 use Rattle.packing.specs.Packing.{packed, unpacked}
 use Rattle.packing.specs.Laws.Polynomials.{length_packed}
 use Rattle.algebra.specs.Vectors.{inner_mod}
-use Rattle.algebra.specs.Laws.Matrices.{inner_secret}
+use Rattle.algebra.proofs.Laws.Matrices.{inner_secret}
 use Rattle.sampling.specs.Sampling.{secret}
 use Rattle.reconciliation.specs.Reconciliation.{masked_poly, recon_data, recovered}
 use Rattle.lwr.specs.Lwr.{rounded_vector}

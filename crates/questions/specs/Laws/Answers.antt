@@ -1,7 +1,7 @@
 -- Laws of answers and of outputs at exit.
 use Rattle.std.specs.Prelude.{ℕ, zero, suc, ◌<◌, Bool, true, false, ◌&&◌, List, [], ◌∷◌, ◌≡◌, refl, ltb, take, drop}
 use Rattle.std.proofs.Common.{sym, ◌∙◌, arith, ltb-true}
-use Rattle.lists.specs.Laws.Booleans.{and_left, and_right}
+use Rattle.lists.proofs.Laws.Booleans.{and_left, and_right}
 use Rattle.questions.specs.Answers.{ask, Question, earliest, written, Wrote}
 use Rattle.questions.specs.Ensures.{Asks}
 

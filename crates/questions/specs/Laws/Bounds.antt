@@ -3,7 +3,7 @@ use Rattle.std.specs.Prelude.{ℕ, zero, suc, ◌<◌, ◌≤◌, true, false, L
 use Rattle.std.proofs.lemmas.Bool.{false≢true}
 use Rattle.std.proofs.Common.{sym, ◌∙◌, arith, lt_of_not-le, lt-ltb, le-ltb}
 use Rattle.lists.specs.Numbers.{Below}
-use Rattle.lists.specs.Laws.Booleans.{and_false}
+use Rattle.lists.proofs.Laws.Booleans.{and_false}
 use Rattle.questions.specs.Answers.{all_below}
 
 pub all_below_true : (m : ℕ) (s : List ℕ) → Below m s → all_below m s ≡ true

@@ -1,7 +1,7 @@
 -- `reconciliation::mask_into` meets its contract: after k turns the first k coefficients are masked.
 use native.Mathlib.Omega.{arith}
 use borrow.Author.Rules.{rules}
-use Rattle.lists.specs.Laws.Fill.{fill_none, fill_more, fill_all}
+use Rattle.lists.proofs.Laws.Fill.{fill_none, fill_more, fill_all}
 use Rattle.reconciliation.specs.Reconciliation.{masked_poly}
 use Rattle.reconciliation.proofs.mask_into.Goals as goal
 

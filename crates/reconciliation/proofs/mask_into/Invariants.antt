@@ -1,7 +1,7 @@
 -- `reconciliation::mask_into` meets its contract: after k turns the first k coefficients are masked.
 use Prim.Native.Nat.{◌-◌}
 use lib.ListN.{get_or}
-use Rattle.lists.specs.Laws.Fill.{Filled}
+use Rattle.lists.proofs.Laws.Fill.{Filled}
 use Rattle.reconciliation.specs.Reconciliation.{masked}
 use Rattle.reconciliation.proofs.mask_into.Given as goal
 

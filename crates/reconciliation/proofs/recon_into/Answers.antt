@@ -3,9 +3,9 @@ use Prim.Native.Nat.{ℕ, ◌/◌}
 use mathlib.Core.Path.{refl, sym, ap, ◌∙◌}
 use native.Mathlib.Omega.{arith}
 use lib.ListN.{length, get_or}
-use Rattle.lists.specs.Laws.Fill.{fill_more, fill_all}
+use Rattle.lists.proofs.Laws.Fill.{fill_more, fill_all}
 use Rattle.reconciliation.specs.Reconciliation.{data_of, recon_data}
-use Rattle.lists.specs.Laws.Lists.{from_map}
+use Rattle.lists.proofs.Laws.Lists.{from_map}
 use Rattle.reconciliation.proofs.recon_into.Goals as goal
 
 pub loop-i-preserved : goal.loop-i-preserved

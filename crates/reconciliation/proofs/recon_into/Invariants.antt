@@ -1,7 +1,7 @@
 -- `reconciliation::recon_into` meets its contract: each place passed holds its data, since a shift by the step's zeros is the quotient by the step.
 use Prim.Native.Nat.{◌-◌}
 use lib.ListN.{length, get_or}
-use Rattle.lists.specs.Laws.Fill.{Filled}
+use Rattle.lists.proofs.Laws.Fill.{Filled}
 use Rattle.reconciliation.specs.Reconciliation.{data_of}
 use Rattle.reconciliation.proofs.recon_into.Given as goal
 

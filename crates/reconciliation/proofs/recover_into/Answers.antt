@@ -1,6 +1,6 @@
 -- `reconciliation::recover_into` meets its contract: each place passed holds its bit.
 use native.Mathlib.Omega.{arith}
-use Rattle.lists.specs.Laws.Fill.{fill_more, fill_all}
+use Rattle.lists.proofs.Laws.Fill.{fill_more, fill_all}
 use Rattle.reconciliation.specs.Reconciliation.{recovered}
 use Rattle.reconciliation.proofs.recover_into.Goals as goal
 

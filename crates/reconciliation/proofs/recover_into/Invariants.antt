@@ -1,7 +1,7 @@
 -- `reconciliation::recover_into` meets its contract: each place passed holds its bit.
 use Prim.Native.Nat.{◌-◌}
 use lib.ListN.{length, get_or}
-use Rattle.lists.specs.Laws.Fill.{Filled}
+use Rattle.lists.proofs.Laws.Fill.{Filled}
 use Rattle.reconciliation.specs.Reconciliation.{bit_of}
 use Rattle.reconciliation.proofs.recover_into.Given as goal
 

@@ -3,10 +3,10 @@ use Rattle.std.specs.Prelude.{ℕ, zero, suc, ◌+◌, ◌-◌, ◌*◌, ◌/◌
 use Rattle.std.proofs.Common.{div-lt_iff_lt-mul, mod-lt, arith}
 use Rattle.std.proofs.lemmas.List.{length-map}
 use Rattle.lists.specs.Numbers.{Below}
-use Rattle.lists.specs.Laws.Lists.{length_from, from_at, from_map}
+use Rattle.lists.proofs.Laws.Lists.{length_from, from_at, from_map}
 use Rattle.algebra.specs.Integers.{modℤ}
-use Rattle.algebra.specs.Laws.Whole.{up_neg, dn_neg, add_split}
-use Rattle.algebra.specs.Laws.Residues.{mod_of, mod_bound}
+use Rattle.algebra.proofs.Laws.Whole.{up_neg, dn_neg, add_split}
+use Rattle.algebra.proofs.Laws.Residues.{mod_of, mod_bound}
 use Rattle.reconciliation.specs.Reconciliation.{masked, data_of, bit_of, masked_poly, recon_data, recovered}
 
 -- as many numbers of data, and as many bits, as coefficients

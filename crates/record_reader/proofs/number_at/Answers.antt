@@ -1,6 +1,6 @@
 -- `record_reader::number_at` meets its contract: past its end a record has no bytes.
 use native.Mathlib.Omega.{arith}
-use Rattle.lists.specs.Laws.Parts.{mid_part}
+use Rattle.lists.proofs.Laws.Parts.{mid_part}
 use Rattle.record_reader.specs.Laws.Steps.{clipped, to_end, past}
 use Rattle.record_reader.proofs.number_at.Goals as goal
 

@@ -12,8 +12,8 @@ use Rattle.sets.specs.declared.Params.{Params}
 use Rattle.sets.specs.Sets.{params_of}
 use Rattle.sets.specs.Laws.Sets.{few_bytes}
 use Rattle.record_format.specs.Records.{door_or_zero, read_questions}
-use Rattle.record_format.specs.Laws.Doors.{upper_half}
-use Rattle.record_format.specs.Laws.Fields.{head_few}
+use Rattle.record_format.proofs.Laws.Doors.{upper_half}
+use Rattle.record_format.proofs.Laws.Fields.{head_few}
 use Rattle.record_reader.proofs.read_answer.Goals as goal
 
 pub overflow_add-size : goal.overflow_add-size

@@ -3,8 +3,8 @@ use Rattle.std.specs.Prelude.{ℕ, ◌+◌, ◌-◌, ◌≤◌, List, ◌≡◌,
 use Rattle.std.proofs.Math.Option.{none, some}
 use Rattle.std.proofs.Common.{sym, ap, ◌∙◌, arith, length-drop}
 use Rattle.lists.specs.Strings.{placed}
-use Rattle.lists.specs.Laws.Parts.{last_part}
-use Rattle.lists.specs.Laws.Strings.{placed_whole}
+use Rattle.lists.proofs.Laws.Parts.{last_part}
+use Rattle.lists.proofs.Laws.Strings.{placed_whole}
 use Rattle.questions.specs.Answers.{earliest}
 use Rattle.questions.specs.Laws.Answers.{refused}
 use Rattle.record_format.specs.declared.Head.{Head}
@@ -12,7 +12,7 @@ use Rattle.record_format.specs.declared.Read.TheVariants.{Entry, Refused}
 use Rattle.record_format.specs.Records.{head_length, head_in, read_questions, door_or_zero, read_answer}
 use Rattle.record_format.specs.Promises.{Retrieved}
 use Rattle.record_format.specs.Ensures.{Readable}
-use Rattle.record_format.specs.Laws.Records.{readable}
+use Rattle.record_format.proofs.Laws.Records.{readable}
 
 module _ (s old : List ℕ) {m r : ℕ} {h : Head} (im : m ≡ get_or s 0 0) (ih : h ≡ head_in s)
     (a : r ≡ earliest (read_questions m (door_or_zero h.door) h.set (length s) (length old))) where

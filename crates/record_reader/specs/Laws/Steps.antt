@@ -5,7 +5,7 @@ use Rattle.std.proofs.Common.{sym, ap, ◌∙◌, lt_of_lt_of_le, arith, length-
 use Rattle.std.proofs.Math.Nat.{pow-le-pow_right, one-le-pow, min-le_left}
 use Rattle.std.proofs.Math.Seq.{take-nil}
 use Rattle.lists.specs.Numbers.{number, digit}
-use Rattle.lists.specs.Laws.Parts.{last_part}
+use Rattle.lists.proofs.Laws.Parts.{last_part}
 use Rattle.record_format.specs.Records.{stands, given, is_map}
 
 -- a number whose bit b stands, and one whose bit does not

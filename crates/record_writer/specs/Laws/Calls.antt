@@ -4,7 +4,7 @@ use Rattle.std.proofs.Common.{append_assoc, sym, ap, ◌∙◌, mod-eq_of_lt, ar
 use Rattle.std.proofs.Math.Option.{Option}
 use Rattle.std.proofs.Math.ListN.{length-append}
 use Rattle.lists.specs.Numbers.{digits}
-use Rattle.lists.specs.Laws.Numbers.{length_digits}
+use Rattle.lists.proofs.Laws.Numbers.{length_digits}
 use Rattle.questions.specs.Answers.{earliest}
 use Rattle.questions.specs.Laws.Answers.{all_yes, wrote, wrote_none}
 use Rattle.sets.specs.declared.Params.{Params}
@@ -15,8 +15,8 @@ use Rattle.record_format.specs.declared.Head.{Head}
 use Rattle.record_format.specs.Records.{Field, fields, head_length, door_number, time_number, short_door, wide_door, numbers_of, bits_of, laid}
 use Rattle.record_format.specs.Records.{map_of, headed, record_of, write_questions}
 use Rattle.record_format.specs.Promises.{Recorded}
-use Rattle.record_format.specs.Laws.Fields.{length_laid}
-use Rattle.record_format.specs.Laws.Records.{mapped}
+use Rattle.record_format.proofs.Laws.Fields.{length_laid}
+use Rattle.record_format.proofs.Laws.Records.{mapped}
 use Rattle.record_writer.specs.declared.Part.{Part}
 use Rattle.record_writer.specs.Requires.{WriteLengths}
 use Rattle.record_writer.specs.Ensures.{Lays}

@@ -6,10 +6,10 @@ use Rattle.std.proofs.Math.Decide.{dec_lt}
 use native.Mathlib.Omega.{arith}
 use Rattle.lists.specs.Numbers.{digits}
 use Rattle.lists.specs.Strings.{placed}
-use Rattle.lists.specs.Laws.Numbers.{length_digits}
-use Rattle.lists.specs.Laws.Parts.{prefix_none, prefix_copy, prefix_all}
+use Rattle.lists.proofs.Laws.Numbers.{length_digits}
+use Rattle.lists.proofs.Laws.Parts.{prefix_none, prefix_copy, prefix_all}
 use Rattle.record_format.specs.Records.{wide_from, short_door, wide_door, bits_of, laid}
-use Rattle.record_format.specs.Laws.Doors.{is_short, is_wide}
+use Rattle.record_format.proofs.Laws.Doors.{is_short, is_wide}
 use Rattle.record_writer.specs.declared.Part.{Part}
 use Rattle.record_writer.specs.Requires.{WriteLengths}
 use Rattle.record_writer.specs.Ensures.{Lays}

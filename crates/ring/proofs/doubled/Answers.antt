@@ -1,6 +1,6 @@
 -- `ring::doubled` meets its contract: each loop writes one place of the table a turn, from the front.
 use Rattle.std.proofs.Common.{◌-◌, refl, ◌∙◌, arith}
-use Rattle.lists.specs.Laws.Fill.{fill_none, fill_more, fill_all}
+use Rattle.lists.proofs.Laws.Fill.{fill_none, fill_more, fill_all}
 use Rattle.ring.specs.Laws.Columns.{place_low, place_high, places}
 use Rattle.ring.proofs.doubled.Goals as goal
 

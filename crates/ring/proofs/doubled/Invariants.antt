@@ -1,6 +1,6 @@
 -- `ring::doubled` meets its contract: each loop writes one place of the table a turn, from the front.
 use Rattle.std.proofs.Common.{ℕ, ◌-◌, ◌≤◌}
-use Rattle.lists.specs.Laws.Fill.{Filled}
+use Rattle.lists.proofs.Laws.Fill.{Filled}
 use Rattle.algebra.specs.Integers.{modℤ}
 use Rattle.algebra.specs.Ring.{at, nat}
 use Rattle.algebra.specs.Columns.{doubled}

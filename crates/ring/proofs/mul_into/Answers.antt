@@ -1,6 +1,6 @@
 -- `ring::mul_into` meets its contract: each turn writes one coefficient, the scalar product of a with 256 places of b's table.
 use Rattle.std.proofs.Common.{◌<◌, ◌∙◌, arith, length-take}
-use Rattle.lists.specs.Laws.Fill.{fill_none, fill_more, fill_all}
+use Rattle.lists.proofs.Laws.Fill.{fill_none, fill_more, fill_all}
 use Rattle.ring.specs.Laws.Columns.{part_length, column, coefficients}
 use Rattle.ring.proofs.mul_into.Goals as goal
 

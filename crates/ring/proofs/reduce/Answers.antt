@@ -1,7 +1,7 @@
 -- `ring::reduce` meets its contract: the coefficients passed are reduced, the others are as they were.
 use Rattle.std.proofs.Common.{ℕ, ◌%◌, refl, ap, ◌∙◌, arith, get_or-set_other}
-use Rattle.lists.specs.Laws.Fill.{fill_none, fill_more, fill_all}
-use Rattle.lists.specs.Laws.Lists.{from_map}
+use Rattle.lists.proofs.Laws.Fill.{fill_none, fill_more, fill_all}
+use Rattle.lists.proofs.Laws.Lists.{from_map}
 use Rattle.ring.proofs.reduce.Goals as goal
 
 pub loop-k-init : goal.loop-k-init

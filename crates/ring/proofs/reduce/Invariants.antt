@@ -1,6 +1,6 @@
 -- `ring::reduce` meets its contract: the coefficients passed are reduced, the others are as they were.
 use Rattle.std.proofs.Common.{◌≡◌, ℕ, ◌-◌, ◌%◌, ◌≤◌, length, get_or}
-use Rattle.lists.specs.Laws.Fill.{Filled}
+use Rattle.lists.proofs.Laws.Fill.{Filled}
 use Rattle.ring.proofs.reduce.Given as goal
 
 abbrev pub invariant-loop-k : goal.invariant-loop-k

@@ -4,14 +4,14 @@ use Rattle.std.proofs.Common.{sym, ◌∙◌, mod-eq_of_lt, arith, length-take, 
 use Rattle.std.proofs.Math.Path.{ap}
 use Rattle.std.proofs.Math.ListN.{length-map}
 use Rattle.lists.specs.Lists.{from}
-use Rattle.lists.specs.Laws.Lists.{length_from, map_from}
+use Rattle.lists.proofs.Laws.Lists.{length_from, map_from}
 use Rattle.algebra.specs.Integers.{modℤ, sum}
 use Rattle.algebra.specs.Ring.{at, coef, mul, nat, residues}
 use Rattle.algebra.specs.Columns.{doubled, table, dot}
-use Rattle.algebra.specs.Laws.Sums.{sum_next}
-use Rattle.algebra.specs.Laws.Residues.{mod_add, mod_neg}
-use Rattle.algebra.specs.Laws.Reduced.{at_nat, column_coef}
-use Rattle.algebra.specs.Laws.Table.{doubled_low, doubled_high}
+use Rattle.algebra.proofs.Laws.Sums.{sum_next}
+use Rattle.algebra.proofs.Laws.Residues.{mod_add, mod_neg}
+use Rattle.algebra.proofs.Laws.Reduced.{at_nat, column_coef}
+use Rattle.algebra.proofs.Laws.Table.{doubled_low, doubled_high}
 use Rattle.ring.specs.Products.{product}
 
 -- the scalar product, one term more

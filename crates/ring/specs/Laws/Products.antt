@@ -2,11 +2,11 @@
 use Rattle.std.specs.Prelude.{◌≡◌, ℕ, ◌%◌, true, ◌⊎◌, List, map, length, ℤ, ◌==◌, refl}
 use Rattle.std.proofs.Common.{inl, inr, ⊎_elim, ◌∙◌, ap, arith, Fits, eqb-true}
 use Rattle.std.specs.Int.{w16}
-use Rattle.lists.specs.Laws.Booleans.{or_cases}
+use Rattle.lists.proofs.Laws.Booleans.{or_cases}
 use Rattle.questions.specs.Answers.{earliest}
 use Rattle.questions.specs.Laws.Answers.{all_yes, wrote}
 use Rattle.algebra.specs.Ring.{mul, nat, residues}
-use Rattle.algebra.specs.Laws.Reduced.{residues_part}
+use Rattle.algebra.proofs.Laws.Reduced.{residues_part}
 use Rattle.ring.specs.Products.{product, is_modulus, mul_questions}
 use Rattle.ring.specs.Promises.{Multiplied}
 use Rattle.ring.specs.Requires.{Factors}

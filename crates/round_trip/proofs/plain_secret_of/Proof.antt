@@ -5,7 +5,7 @@ use mathlib.Core.Path.{sym, ap, ◌∙◌}
 use native.Mathlib.Omega.{arith}
 use lib.ListN.{take}
 use lib.Seq.{take_all}
-use Rattle.lists.specs.Laws.Parts.{first_part}
+use Rattle.lists.proofs.Laws.Parts.{first_part}
 use Rattle.sets.specs.declared.Params.{Params}
 use Rattle.sets.specs.Laws.Sets.{few_polynomials}
 use Rattle.round_trip.proofs.plain_secret_of.Statement.{statement}

@@ -1,6 +1,6 @@
 -- `round_trip::round_trip` meets its contract: the four calls keep their promises, and `trip` says what these give together.
 use borrow.Author.Rules.{rules}
-use Rattle.correctness.specs.Laws.Theorem.{same_string, trip}
+use Rattle.correctness.proofs.Laws.Theorem.{same_string, trip}
 use Rattle.round_trip.proofs.round_trip.Statement.{statement}
 use Rattle.round_trip.proofs.round_trip.Tie as tie
 

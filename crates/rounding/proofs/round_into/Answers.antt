@@ -1,8 +1,8 @@
 -- `rounding::round_into` meets its contract: one coefficient a turn.
 use Rattle.std.proofs.Common.{refl, ◌∙◌, arith}
-use Rattle.lists.specs.Laws.Fill.{fill_none, fill_more, fill_all}
+use Rattle.lists.proofs.Laws.Fill.{fill_none, fill_more, fill_all}
 use Rattle.rounding.specs.Rounding.{round}
-use Rattle.lists.specs.Laws.Lists.{from_map}
+use Rattle.lists.proofs.Laws.Lists.{from_map}
 use Rattle.rounding.proofs.round_into.Goals as goal
 
 pub loop-k-init : goal.loop-k-init

@@ -1,6 +1,6 @@
 -- `rounding::round_into` meets its contract: one coefficient a turn.
 use Rattle.std.proofs.Common.{ℕ, ◌-◌, length, get_or}
-use Rattle.lists.specs.Laws.Fill.{Filled}
+use Rattle.lists.proofs.Laws.Fill.{Filled}
 use Rattle.rounding.specs.Rounding.{round}
 use Rattle.rounding.proofs.round_into.Given as goal
 

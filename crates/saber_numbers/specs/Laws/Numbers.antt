@@ -9,7 +9,7 @@ use Rattle.record_format.specs.declared.Head.{Head}
 use Rattle.record_format.specs.declared.Read.{Read}
 use Rattle.record_format.specs.Records.{door_number, time_number, head_in}
 use Rattle.record_format.specs.Promises.{Recorded, Retrieved}
-use Rattle.record_format.specs.Laws.Calls.{refusal_given}
+use Rattle.record_format.proofs.Laws.Calls.{refusal_given}
 use Rattle.saber_numbers.specs.Numbers.{flagged, flag_of, or_old}
 use Rattle.saber_numbers.specs.Promises.{ReadInto}
 

@@ -6,7 +6,7 @@ use native.Mathlib.Nat.{zero-mod, zero-div, add-mod_right, add-div_right}
 use native.Mathlib.Numerals.{add-one}
 use native.Mathlib.Omega.{arith}
 use lib.ListN.{length-take, length-drop}
-use Rattle.lists.specs.Laws.Fill.{fill_none, fill_part, fill_all}
+use Rattle.lists.proofs.Laws.Fill.{fill_none, fill_part, fill_all}
 use Rattle.keccak.specs.Keccak.{State, keccak_f}
 use Rattle.sponge.specs.Sponge.{byte_at, later}
 use Rattle.sponge.specs.Laws.Sponge.{squeeze_at}

@@ -3,7 +3,7 @@
 use mathlib.Core.Path.{◌≡◌}
 use Prim.Native.Nat.{◌<◌, ◌-◌, ◌/◌, ◌%◌}
 use lib.ListN.{length}
-use Rattle.lists.specs.Laws.Fill.{Filled}
+use Rattle.lists.proofs.Laws.Fill.{Filled}
 use Rattle.keccak.specs.Keccak.{keccak_f}
 use Rattle.sponge.specs.Sponge.{later, squeezed}
 use Rattle.sponge.proofs.squeeze.Given as goal

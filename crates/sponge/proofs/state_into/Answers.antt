@@ -3,7 +3,7 @@ use mathlib.Core.Path.{◌≡◌, refl}
 use Prim.Native.Nat.{◌+◌, ◌*◌}
 use native.Mathlib.Omega.{arith}
 use lib.ListN.{length-take, length-drop}
-use Rattle.lists.specs.Laws.Fill.{fill_none, fill_all}
+use Rattle.lists.proofs.Laws.Fill.{fill_none, fill_all}
 use Rattle.sponge.specs.Laws.Sponge.{lane_more}
 use Rattle.sponge.proofs.state_into.Goals as goal
 

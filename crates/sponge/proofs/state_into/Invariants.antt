@@ -1,7 +1,7 @@
 -- `sponge::state_into` meets its contract. The loop's invariant: the first k lanes are written.
 use Prim.Native.Nat.{◌-◌, ◌*◌, ◌/◌}
 use lib.ListN.{length}
-use Rattle.lists.specs.Laws.Fill.{Filled}
+use Rattle.lists.proofs.Laws.Fill.{Filled}
 use Rattle.sponge.specs.Sponge.{byte_at}
 use Rattle.sponge.proofs.state_into.Given as goal
 

@@ -12,11 +12,11 @@ use Rattle.std.proofs.lemmas.List.{length-replicate, replicate-append-replicate,
 use Rattle.std.proofs.Math.Seq.{set-append_seam, append_snoc, length-take-le, take_all, take-append-le}
 use Rattle.lists.specs.Numbers.{digit, digits, Below}
 use Rattle.lists.specs.Strings.{placed}
-use Rattle.lists.specs.Laws.Lists.{length_from, from_at}
-use Rattle.lists.specs.Laws.Fill.{Filled, fill_part}
-use Rattle.lists.specs.Laws.Numbers.{digits_from}
-use Rattle.lists.specs.Laws.Parts.{mid_part, last_part}
-use Rattle.lists.specs.Laws.Strings.{placed_front}
+use Rattle.lists.proofs.Laws.Lists.{length_from, from_at}
+use Rattle.lists.proofs.Laws.Fill.{Filled, fill_part}
+use Rattle.lists.proofs.Laws.Numbers.{digits_from}
+use Rattle.lists.proofs.Laws.Parts.{mid_part, last_part}
+use Rattle.lists.proofs.Laws.Strings.{placed_front}
 use Rattle.keccak.specs.Keccak.{State, lane, keccak_f}
 use Rattle.sponge.specs.Sponge.{mix, byte_at, padding, padded, absorbed, absorb, later, squeezed, sponge}
 
