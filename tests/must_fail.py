@@ -51,13 +51,13 @@ CLASSES = {
     "it rests on what is not proved": (NOTHING, r"\b(?:was|is) not admitted\b|^\d+ declarations? that depends? on "),
     "values at which a fact fails": (
         SOMETHING,
-        r"\); the facts known there al|does not follow from what it read"
+        r"\); the facts known there al|does not follow from what it read|`grind`: the goal does not follow"
         r"|All of that holds, and (?:the goal|the part|it) fails",
     ),
     "a tactic met a bound": (
         NOTHING,
-        r"\); `\w+` gav|`\w+` (?:met|stopped at) a bound of its own|gave up at one of its|broke off|resource limit"
-        r"|step limit|ran out of|Not every way was tried|with lemmas still to try|It stopped (?:after|when)",
+        r"\); `\w+` gav|`\w+` (?:met|stopped at) (?:a bound of its own|its own limit)|gave up at one of its|broke off"
+        r"|resource limit|step limit|ran out of|Not every way was tried|with lemmas still to try|It stopped (?:after|when)",
     ),
     "neither a proof nor values": (NOTHING, r"found no proof, and (?:no values|could not check its values)"),
     "a goal that is left open": (SOMETHING, r"^it is not proved that "),
@@ -71,7 +71,7 @@ CLASSES = {
         SOMETHING,
         r"no occurrence of the path's left endpoint|no part of the goal `|no equation of the list has an instance",
     ),
-    "indices that differ": (SOMETHING, r"` lands at index `|the two indices are `"),
+    "indices that differ": (SOMETHING, r"` lands at index `|the two indices (?:are `|differ only|first differ)"),
     "types that differ": (
         SOMETHING,
         r"\bexpected type `|but this has type `|` ≟ `|the two (?:types|sides) (?:are `|differ only|first differ)",
@@ -101,6 +101,8 @@ def is_whole(words, name, is_cut):
     """Whether an error shows why a goal is open, or all that it compares: both types, or the place where they differ."""
     if name == "a goal that is left open":
         return not is_cut and words.endswith("`)")
+    if name == "search found no proof":
+        return bool(re.search(r"Every way was tried|`grind` found no proof\. It did not", words))
     if name != "types that differ":
         return True
     if re.search(r"computed as far as they go, the two (?:types|sides) (?:differ only|first differ) where one", words):
@@ -232,8 +234,21 @@ SAMPLES = [
         "a goal that is left open, cut off",
         note(f"{RETURNS} (`returns-then-not-below-bound-then-not-below-other-bound"),
     ),
-    ("search found no proof", error("`returns`: `search`: no proof of `Path A.Bool true (A.below c.args.x)` was found. E")),
-    ("search found no proof, at what a call requires", error("`g-requires-2`: `search`: no proof of `A.Post c` was fou")),
+    (
+        "values at which a fact fails",
+        error("`is_set`: `search`: no proof of `IsSet saber` was found. `grind`: the goal does not follow. The hypotheses"),
+    ),
+    ("search found no proof", error("`returns`: `search`: no proof of `A.Post c` was found. Every way was tried: a deeper")),
+    ("search found no proof", error("`returns`: `grind` found no proof. It did not look into `length c.loop-word.list`, `len")),
+    (
+        "search found no proof, at what a call requires",
+        error("`g-requires-2`: `search`: no proof of `A c` was found. Every way was tried: a deeper search would find"),
+    ),
+    (
+        "search found no proof, cut off",
+        error("`returns`: `search`: no proof of `mathlib.Core.Path.◌≡◌ (lib.Bits.bit_xor c.args.b (lib.Bits.bit_and (Pri"),
+    ),
+    ("a tactic met a bound", error("`returns`: `search`: no proof of `A c` was found. Not every way was tried. No hypothe")),
     ("equations that do not join", error("`returns`: `cc`: the equations do not join `A` to `B`")),
     (
         "an equation whose ends differ",
@@ -246,6 +261,10 @@ SAMPLES = [
     (
         "indices that differ",
         error("`returns`: computed as far as they go, the two indices are `0` (the constructor's) and `9` (the expected"),
+    ),
+    (
+        "indices that differ",
+        error("`returns`: computed as far as they go, the two indices differ only where one has `7` (the constructor's)"),
     ),
     ("types that differ", error("`law`: expected type `a ≡ 256`, but this has type `a ≡ 257`", "./specs/Laws/A.antt:9:3")),
     (
