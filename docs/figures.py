@@ -13,7 +13,7 @@ sys.path.append(str(ROOT / "tests"))
 
 from definitions import kind_of, specs
 
-KINDS = ("definitions", "inner", "laws")
+KINDS = ("definitions", "inner")
 SKIPPED = re.compile(r"\s*(--|//|#!\[|(ghost |pub )*use )|\s*$")
 SECONDS = re.compile(r"^\| `(\w+)` \|.* ([\d,]+) \|$", re.MULTILINE)
 
@@ -37,7 +37,8 @@ def main():
         row = [
             lines(crate.glob("src/**/*.rt")),
             *(lines(path for file, path in files if kind_of(file) == kind) for kind in KINDS),
-            lines(crate.glob("proofs/**/*.antt")),
+            lines([*(path for file, path in files if kind_of(file) == "laws"), *crate.glob("proofs/Laws/*.antt")]),
+            lines({*crate.glob("proofs/**/*.antt")} - {*crate.glob("proofs/Laws/*.antt")}),
             len([*crate.glob("must-fail/*.edit")]),
             int(seconds[name].replace(",", "")),
         ]

@@ -36,11 +36,14 @@ def layers():
 KIT = {library for libraries in layers().values() for library in libraries} - CRATES.keys()
 
 
-def declares(path, name):
-    """Whether a file of specs/ declares a name: at the start of a line, as `NAME :`, `record NAME` or `data NAME`."""
+def declares(crate, file, name):
+    """Whether a file of definitions or laws declares a name: at the start of a line, as `NAME :`, `record NAME` or
+    `data NAME`. Laws may stand in specs/ or in proofs/."""
     name = re.escape(name)
     declaration = rf"^ *(?:(?:pub|abbrev|unfoldable) )*(?:{name} :|(?:record|data) {name})(?=\s)"
-    return path.is_file() and re.search(declaration, path.read_text(), re.MULTILINE)
+    folders = ("specs", "proofs") if file.startswith("Laws/") else ("specs",)
+    paths = [ROOT / "crates" / crate / folder / f"{file}.antt" for folder in folders]
+    return any(path.is_file() and re.search(declaration, path.read_text(), re.MULTILINE) for path in paths)
 
 
 def says(crate, pattern):
@@ -63,7 +66,7 @@ def cited(path):
     """Each citation of a document, and whether it leads somewhere."""
     text = path.read_text()
     for crate, file, name in SPECS.findall(text):
-        yield f"{crate}/{file}.{name}", declares(ROOT / "crates" / crate / "specs" / f"{file}.antt", name)
+        yield f"{crate}/{file}.{name}", declares(crate, file, name)
     for crate, name in PROOFS.findall(text):
         yield f"{crate}/proofs/{name}", is_proved(crate, name)
     for crate, name in FUNCTIONS.findall(text):
