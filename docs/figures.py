@@ -14,7 +14,7 @@ sys.path.append(str(ROOT / "tests"))
 from definitions import kind_of, specs
 
 KINDS = ("definitions", "inner")
-SKIPPED = re.compile(r"\s*(--|//|#!\[|(ghost |pub )*use )|\s*$")
+SKIPPED = re.compile(r"\s*(--|//|#!\[|(ghost |pub )*use |(pub )?mod \w+$)|\s*$")
 SECONDS = re.compile(r"^\| `(\w+)` \|.* ([\d,]+) \|$", re.MULTILINE)
 
 
