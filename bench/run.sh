@@ -1,9 +1,9 @@
 #!/bin/sh
 # Builds the archive and measures it: the scheme beside others, the ring products and the secrets beside plain C, the
-# hashes beside OpenSSL's; and a group of marginreport beside keygen, where `rt check` has built that program.
+# hashes beside OpenSSL's; and a group of marginreport beside keygen, where `tools/build.sh` has built that program.
 set -eu
 cd "$(dirname "$0")/.."
-rt staticlib saber
+tools/build.sh archive
 archive=target/staticlib/libsaber.a
 python3 bench/scheme/run.py "$archive"
 echo

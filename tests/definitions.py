@@ -22,9 +22,9 @@ sys.path.append(str(ROOT / "oracle"))
 
 from calls import CALLS
 
-CITED = re.compile(r"Rattle·[\w·.]*\w")
-PLACE = re.compile(r"Rattle·(\w+?)(?:·specs)?\.specs\.(\w+)")
-PROOF = re.compile(r"\b(unfolding|refl|sym|ap|rw|simp|omega|search|absurd|cc)\b")
+CITED = re.compile(r"\bRattle\.(\w+)[\w.]*")
+PLACE = re.compile(r"Rattle\.\w+\.specs\.(\w+)")
+PROOF = re.compile(r"\b(unfolding|refl|sym|ap|rw|simp|omega|search|grind|absurd|cc)\b")
 INNER = re.compile(r"\.specs\.(?:Requires|Ensures|Layout)\.\{([^}]*)\}")
 FUNCTION = re.compile(r'(\bpub )?(extern "C" )?\bfn (\w+)')
 NAME = re.compile(r"^pub mod \w+\s*$", re.MULTILINE)
@@ -64,18 +64,19 @@ def first(fault, lines):
     return [f"{fault}: {line.strip()}" for line in lines if line.strip()][:1]
 
 
-def citations(holder, text, allowed):
-    """The citations of a text that lead to no file whose kind is allowed."""
-    for cited in sorted(set(CITED.findall(text))):
+def citations(holder, text, crates, allowed):
+    """The citations of a text, but those of the kit's own words, that lead to no file whose kind is allowed."""
+    for cited, crate in sorted({(match[0], match[1]) for match in CITED.finditer(text)}):
         place = PLACE.match(cited)
         # `declared` holds the types that a source declares
-        if not place or place[2] != "declared" and place.groups() not in allowed:
+        if crate in crates and not (place and (place[1] == "declared" or (crate, place[1]) in allowed)):
             yield f"{holder} cites {cited}"
 
 
 def main():
     root = Path(sys.argv[1]) if len(sys.argv) > 1 else ROOT
     crates = sorted((root / "crates").iterdir())
+    names = {crate.name for crate in crates}
     files = {(crate.name, name): path for crate in crates for name, path in specs(crate).items()}
     definitions = {key for key in files if kind_of(key[1]) == "definitions"}
     with_inner = definitions | {key for key in files if kind_of(key[1]) == "inner"}
@@ -88,14 +89,14 @@ def main():
         if kind == "names":
             failed += first(f"{holder} does more than name others", NAME.sub("", text).split("\n"))
         if kind in ("definitions", "inner"):
-            failed += citations(holder, text, definitions if kind == "definitions" else with_inner)
+            failed += citations(holder, text, names, definitions if kind == "definitions" else with_inner)
             failed += first(f"{holder} holds a proof", filter(PROOF.search, text.split("\n")))
 
     sources = sorted((root / "crates").glob("*/src/**/*.rt"))
     inner, called = 0, set()
     for path in sources:
         holder, text = path.relative_to(root / "crates").as_posix(), code(path)
-        failed += citations(holder, text, with_inner)
+        failed += citations(holder, text, names, with_inner)
         asked = {"requires", *re.split(r",\s*", ", ".join(INNER.findall(text)))} - {""}
         for public, is_open, name, rest in functions(text):
             if is_open:

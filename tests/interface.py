@@ -142,7 +142,7 @@ def oracle_entries():
 
 # What the library exports
 
-EXPORT = r'#\[no_mangle\]\s*pub extern "C" fn (\w+)\(([^)]*)\)\s*->\s*(\w+)'
+EXPORT = r'#\[unsafe\(no_mangle\)\]\s*pub extern "C" fn (\w+)\(([^)]*)\)\s*->\s*(\w+)'
 
 
 def exported(text):

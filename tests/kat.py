@@ -77,7 +77,7 @@ def main():
             (options.write / path.name).write_text(write(number))
         return
     if not options.sabercall.is_file():
-        sys.exit(f"{options.sabercall} is not there; `rt check` builds it")
+        sys.exit(f"{options.sabercall} is not there; `tools/build.sh` builds it")
     differences = 0
     for path in options.files or FILES.values():
         try:

@@ -110,7 +110,7 @@ def commands(text):
     if names != [f"{EXAMPLE}/run.sh", ".ci/run"] or not all(os.access(ROOT / name, os.X_OK) for name in names):
         raise Wrong(f"the two commands are {names}")
     time = re.search(r"\d+ to \d+ minutes", block)
-    if not time or f"takes {time[0]}." not in source_of("run.sh"):
+    if not time or f"took {time[0]}." not in source_of("run.sh"):
         raise Wrong(f"the first command takes {time and time[0]}, and says something else")
 
 
@@ -122,10 +122,13 @@ def changed_commands(text):
 
 @contextlib.contextmanager
 def example_folder(source, script):
-    """A folder with what the example needs: its two files, the header and the archive."""
+    """A folder with what the example needs: its two files, the header, the archive, and where `rt` builds it."""
     with tempfile.TemporaryDirectory() as name:
         folder = Path(name)
-        (folder / EXAMPLE).mkdir(parents=True)
+        for needed in (EXAMPLE, "tools", "crates/saber/out"):
+            (folder / needed).mkdir(parents=True)
+        (folder / "crates.txt").touch()
+        (folder / "tools/build.sh").symlink_to(ROOT / "tools/build.sh")
         (folder / EXAMPLE / "round_trip.c").write_text(source)
         (folder / EXAMPLE / "run.sh").write_text(script)
         (folder / EXAMPLE / "run.sh").chmod(0o755)
@@ -211,7 +214,7 @@ def changed_sources(source):
 
 
 def example_script(script):
-    """Without a tool it names the tool and ends with 1. Without the archive it says so and has rt build it."""
+    """Without a tool it names the tool and ends with 1. Without the archive it says so and has it built."""
     bash = shutil.which("bash")
     with example_folder(source_of("round_trip.c"), script) as folder:
         few, built = folder / "few", folder / "built"
@@ -219,8 +222,8 @@ def example_script(script):
             place.mkdir()
         for tool in ("dirname", "uname"):
             (few / tool).symlink_to(shutil.which(tool))
-        build = ["ln", "-s", str(ARCHIVE.parent), "target/staticlib"]
-        (built / "rt").write_text(f'#!/bin/sh\necho "rt $*"\n{shlex.join(build)}\n')
+        build = shlex.join(["cp", str(ARCHIVE), f"out/{ARCHIVE.name}"])
+        (built / "rt").write_text(f'#!/bin/sh\n[ "$*" = version ] || {{ echo "rt: $* in ${{PWD##*/}}"; {build}; }}\n')
         (built / "rt").chmod(0o755)
         for tools in (["cc"], ["rt", "cc"]):
             command = [bash, f"{EXAMPLE}/run.sh"]
@@ -230,7 +233,7 @@ def example_script(script):
             (folder / "target/staticlib").unlink(missing_ok=True)
         path = {"PATH": f"{built}:{os.environ['PATH']}"}
         printed = run("run.sh", f"{EXAMPLE}/run.sh", folder, env=os.environ | path)
-        said = r"There is no target/staticlib/libsaber\.a yet\..* takes \d+ to \d+ minutes\.\nrt staticlib saber\n"
+        said = r"There is no target/staticlib/libsaber\.a yet\..* took \d+ to \d+ minutes\.\nrt: lib .*in saber\n"
         if not re.fullmatch(said + re.escape(without_bytes(oracle_example())), without_bytes(printed)):
             raise Wrong(f"without the archive run.sh prints {printed!r}")
 
@@ -239,7 +242,7 @@ def changed_scripts(script):
     for old, new in (
         ("|| exit 1", "|| true"),
         ("|| needed=(rt cc)", "|| needed=(cc)"),
-        ("rt staticlib saber", "rt staticlib sabers"),
+        ("tools/build.sh archive", "tools/build.sh archives"),
         (" 5 to 10 minutes.", " a while."),
         ("-Iinclude ", ""),
     ):

@@ -1,11 +1,11 @@
 #!/bin/sh
-# The library as its users meet it, a test a line. Needs what `rt check` built, and builds the archive. tests/README.md
-# lists the tests: one that is run and not listed there, or listed and not run, fails at the end.
+# The library as its users meet it, a test a line. Needs the programs that `tools/build.sh` builds, and builds the archive.
+# tests/README.md lists the tests: one that is run and not listed there, or listed and not run, fails at the end.
 set -eu
 cd "$(dirname "$0")/.."
 . tests/tools.sh
 if [ ! -x target/bin/sabercall ]; then
-    echo 'target/bin/sabercall is missing: run `rt check` first' >&2
+    echo 'target/bin/sabercall is missing: run `tools/build.sh` first' >&2
     exit 1
 fi
 archive=target/staticlib/libsaber.a
@@ -70,7 +70,7 @@ c99() {
 }
 
 test_beside 'margins against the oracle' python3 tests/margins.py
-test_of 'the archive' rt staticlib saber
+test_of 'the archive' tools/build.sh archive
 test_of 'the header as C++17' \
     c++ -std=c++17 -Wall -Wextra -pedantic -Werror -fsyntax-only -Iinclude -x c++ tests/round_trip.c
 test_of 'the header as C99' c99 round_trip tests/round_trip.c

@@ -4,8 +4,8 @@
     python3 tests/slips.py check      only looks whether each slip still has its place
 
 Each test is first run in the copy as it is, and has to pass there. The table that is printed has the slip, the test,
-and the line with which it ends. It exits with 1 where a test passes in spite of a slip. Needs what `rt check` and
-`rt staticlib saber` built, valgrind and cargo.
+and the line with which it ends. It exits with 1 where a test passes in spite of a slip. Needs what `tools/build.sh`
+built, valgrind and cargo.
 """
 
 import os

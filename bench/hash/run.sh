@@ -1,6 +1,6 @@
 #!/bin/sh
 # run.sh ARCHIVE [ROUNDS]: the speed of SHA3-256 and SHAKE-128 beside OpenSSL's.
-# ARCHIVE is what `rt staticlib` writes of the crate that exports saber_sha3_256 and saber_shake128.
+# ARCHIVE is the library of the crate that exports saber_sha3_256 and saber_shake128.
 # The two take turns of a second, ROUNDS times (5 if not given), and the best turn of each counts.
 set -eu
 here=$(cd "$(dirname "$0")" && pwd)

@@ -1,7 +1,7 @@
 #!/usr/bin/env python3
 """run.py ARCHIVE PROGRAM: the cost of a group of seeds in marginreport, beside a keygen of the same set.
 
-PROGRAM is marginreport, and ARCHIVE what `rt staticlib` writes of the crate that exports saber_keygen. Both work on the
+PROGRAM is marginreport, and ARCHIVE the library of the crate that exports saber_keygen. Both work on the
 same 4,096 groups and take turns; the least processor time of five turns counts, the start of the process included."""
 import pathlib
 import resource

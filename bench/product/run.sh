@@ -1,6 +1,6 @@
 #!/bin/sh
 # run.sh ARCHIVE: cycles for one product modulo 8192 by each of the two calls, beside a plain product in C.
-# ARCHIVE is what `rt staticlib` writes of the crate that exports saber_poly_mul and saber_poly_mul_karatsuba.
+# ARCHIVE is the library of the crate that exports saber_poly_mul and saber_poly_mul_karatsuba.
 set -eu
 here=$(cd "$(dirname "$0")" && pwd)
 work=$(mktemp -d)

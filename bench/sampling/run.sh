@@ -1,6 +1,6 @@
 #!/bin/sh
 # run.sh ARCHIVE: cycles for the secret of a seed in each set, beside SHAKE-128 alone and beside plain C.
-# ARCHIVE is what `rt staticlib` writes of the crate that exports saber_gen_secret and saber_shake128.
+# ARCHIVE is the library of the crate that exports saber_gen_secret and saber_shake128.
 set -eu
 here=$(cd "$(dirname "$0")" && pwd)
 work=$(mktemp -d)

@@ -1,4 +1,4 @@
-// Finds the archive that `rt staticlib saber` writes: in the folder that SABER_LIB_DIR names, else in the repository's target/staticlib.
+// Finds the archive that the repository's `tools/build.sh` makes: in the folder that SABER_LIB_DIR names, else in its target/staticlib.
 use std::env;
 use std::path::{Path, PathBuf};
 
@@ -11,7 +11,7 @@ fn main() {
     println!("cargo:rerun-if-env-changed=SABER_LIB_DIR");
     println!("cargo:rerun-if-changed={}", archive.display());
     if !archive.is_file() {
-        eprintln!("{} is missing: run `rt staticlib saber`, or name its folder in SABER_LIB_DIR", archive.display());
+        eprintln!("{} is missing: run the repository's `tools/build.sh archive`, or name its folder in SABER_LIB_DIR", archive.display());
         std::process::exit(1);
     }
     println!("cargo:rustc-link-search=native={}", folder.display());

@@ -25,8 +25,8 @@ fi
 [ "$missing" = 0 ] || exit 1
 
 if [ ! -f "$archive" ]; then
-    echo "There is no $archive yet. Proving and building the library takes 5 to 10 minutes."
-    rt staticlib saber
+    echo "There is no $archive yet. With an older kit, proving and building the library took 5 to 10 minutes."
+    tools/build.sh archive
 fi
 cc -std=c99 -O2 -Wall -Wextra -pedantic -Iinclude -o "$program" examples/round_trip/round_trip.c "$archive"
 "$program"
