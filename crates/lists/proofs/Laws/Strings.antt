@@ -1,5 +1,5 @@
 -- Laws of strings: the comparison says yes of equal strings alone, and it is made byte by byte; what a string written at a place changes.
-use Rattle.std.specs.Prelude.{ℕ, zero, suc, ◌+◌, ◌-◌, ◌<◌, ◌≤◌, Bool, true, false, ◌&&◌, List, [], ◌∷◌, ◌++◌, ◌⊎◌, ◌≡◌, refl, eqb, take, drop, get_or}
+use Rattle.std.specs.Prelude.{ℕ, zero, suc, ◌+◌, ◌-◌, ◌<◌, ◌≤◌, Bool, true, ◌&&◌, List, [], ◌∷◌, ◌++◌, ◌⊎◌, ◌≡◌, refl, eqb, take, drop, get_or}
 use Rattle.std.proofs.lemmas.Bool.{false≢true}
 use Rattle.std.proofs.Common.{append_assoc, append-nil, inl, inr, ap, ap₂, sym, ◌∙◌, add_assoc, zero-add, add-one, arith, length-append, drop_of_length-le, take_all, take_at, length-take-le, drop-drop, get_or-take, get_or-drop, ext_get_or, eq-eqb, eqb-true}
 use Rattle.std.proofs.Math.Decide.{dec_lt}
