@@ -1,4 +1,5 @@
 // The record of a sealed entry: the types of an entry; definitions, promises and laws, in specs/.
+#![tactic(auto)]
 
 // A door number, or none.
 #[derive(Clone, Copy)]

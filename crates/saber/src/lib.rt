@@ -1,4 +1,6 @@
 // The calls for programs in C and Rust, each with its own promise. A slice is passed as a pointer and then a count of elements.
+#![tactic(auto)]
+
 ghost use Rattle.std.specs.Prelude.{◌≡◌};
 ghost use Rattle.sha3.specs.Promises.{Shaken, Hashed};
 ghost use Rattle.sha3.specs.Hashes.{sha3_256, sha3_512};
