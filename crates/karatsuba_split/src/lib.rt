@@ -2,6 +2,8 @@
 //
 // Everything stands in one lent slice and is named by its place, in chunks of 16 as `karatsuba_base` lays them. The halves of a list of
 // operands or of products are such lists again, so sums and joins go over whole lists.
+#![tactic(auto)]
+
 ghost use Rattle.std.specs.Prelude.{◌≡◌, ℕ, ◌+◌, ◌%◌, ◌≤◌, length, slice_index};
 ghost use Rattle.lists.specs.Lists.{from};
 ghost use Rattle.karatsuba_base.specs.Ensures.{Put};
