@@ -1,10 +1,14 @@
 // Replies: a line is read, the call that it names is made, and what it gives is printed.
+#![tactic(auto)]
+
 ghost use Rattle.std.specs.Prelude.{◌≤◌, length};
 
 use call_arguments::{Arguments, Numbers, Shape};
 use call_table::{Call, Form, Found, Request};
 use call_words::{Bytes, List, Signed, Text};
 use record_format::{Door, Read, Time};
+use std::io::Write;
+use streams::Stream;
 
 // The first n bytes of a buffer, or all of it, and the same of lists.
 fn front(bytes: &[u8], n: usize) -> &[u8] {
@@ -24,25 +28,26 @@ fn signed_front(list: &[i8], n: usize) -> &[i8] {
 
 // The functions below print, and say whether all was written. After a write that fails they write nothing more.
 
-fn print(text: &[u8]) -> bool {
-    streams::write_all(text)
+fn print<W: Write>(to: &mut Stream<W>, text: &[u8]) -> bool {
+    streams::write_all(to, text)
 }
 
-fn print_word(bytes: &[u8], text: &mut Text) -> bool {
+fn print_word<W: Write>(to: &mut Stream<W>, bytes: &[u8], text: &mut Text) -> bool {
     let n = call_words::word_into(bytes, text);
-    print(front(text, n))
+    print(to, front(text, n))
 }
 
 // Prints a space and then an output, where there is one.
-fn print_output(wanted: bool, bytes: &[u8], text: &mut Text) -> bool {
+fn print_output<W: Write>(to: &mut Stream<W>, wanted: bool, bytes: &[u8], text: &mut Text) -> bool {
     if wanted {
-        return print(b" ") && print_word(bytes, text);
+        return print(to, b" ") && print_word(to, bytes, text);
     }
     true
 }
 
 // Prints an answer and every output, the list by way of bytes.
-fn print_answer(
+fn print_answer<W: Write>(
+    to: &mut Stream<W>,
     shape: Shape,
     answer: u8,
     output: &[u8],
@@ -52,56 +57,59 @@ fn print_answer(
     text: &mut Text,
 ) -> bool {
     let n = call_words::bytes_into(res, spare);
-    streams::print_decimal(answer as u64)
-        && print_output(shape.byte_outputs > 0, output, text)
-        && print_output(shape.byte_outputs > 1, extra, text)
-        && print_output(shape.list_outputs > 0, front(spare, n), text)
+    streams::print_decimal(to, answer as u64)
+        && print_output(to, shape.byte_outputs > 0, output, text)
+        && print_output(to, shape.byte_outputs > 1, extra, text)
+        && print_output(to, shape.list_outputs > 0, front(spare, n), text)
 }
 
 // Prints an answer and signed numbers.
-fn print_signed(answer: u8, list: &[i8], text: &mut Text) -> bool {
+fn print_signed<W: Write>(to: &mut Stream<W>, answer: u8, list: &[i8], text: &mut Text) -> bool {
     let n = call_words::signed_into(list, text);
-    streams::print_decimal(answer as u64) && print(b" ") && print(front(text, n))
+    streams::print_decimal(to, answer as u64) && print(to, b" ") && print(to, front(text, n))
 }
 
 // Prints a space and then a number, a door or a time, which is `-` where it is missing.
-fn print_number(x: u64) -> bool {
-    print(b" ") && streams::print_decimal(x)
+fn print_number<W: Write>(to: &mut Stream<W>, x: u64) -> bool {
+    print(to, b" ") && streams::print_decimal(to, x)
 }
 
-fn print_door(door: Door) -> bool {
+fn print_door<W: Write>(to: &mut Stream<W>, door: Door) -> bool {
     match door {
-        Door::Number(x) => print_number(x as u64),
-        Door::Missing => print(b" -"),
+        Door::Number(x) => print_number(to, x as u64),
+        Door::Missing => print(to, b" -"),
     }
 }
 
-fn print_time(time: Time) -> bool {
+fn print_time<W: Write>(to: &mut Stream<W>, time: Time) -> bool {
     match time {
-        Time::Number(x) => print_number(x),
-        Time::Missing => print(b" -"),
+        Time::Number(x) => print_number(to, x),
+        Time::Missing => print(to, b" -"),
     }
 }
 
 // Prints the answer of reading a record, and the numbers of its entry.
-fn print_read(read: Read) -> bool {
+fn print_read<W: Write>(to: &mut Stream<W>, read: Read) -> bool {
     match read {
         Read::Entry(head) => {
             let door = head.door;
             let time = head.time;
-            print(b"0") && print_door(door) && print_time(time) && print_number(head.set as u64)
+            print(to, b"0")
+                && print_door(to, door)
+                && print_time(to, time)
+                && print_number(to, head.set as u64)
         }
-        Read::Refused(answer) => streams::print_decimal(answer as u64) && print(b" - - -"),
+        Read::Refused(answer) => streams::print_decimal(to, answer as u64) && print(to, b" - - -"),
     }
 }
 
 // Prints what is wrong with a line.
-fn print_fault(fault: u8) -> bool {
+fn print_fault<W: Write>(to: &mut Stream<W>, fault: u8) -> bool {
     match fault {
-        call_words::WRONG_COUNT => print(b"error wrong count"),
-        call_words::BAD_DIGIT => print(b"error bad digit"),
-        call_words::ODD_COUNT => print(b"error odd count"),
-        _ => print(b"error too large"),
+        call_words::WRONG_COUNT => print(to, b"error wrong count"),
+        call_words::BAD_DIGIT => print(to, b"error bad digit"),
+        call_words::ODD_COUNT => print(to, b"error odd count"),
+        _ => print(to, b"error too large"),
     }
 }
 
@@ -143,7 +151,8 @@ fn make_call(
 }
 
 // Makes a call and prints its answer. A list or an output is the front of its buffer.
-fn answer_call(
+fn answer_call<W: Write>(
+    to: &mut Stream<W>,
     call: Call,
     shape: Shape,
     a: Arguments,
@@ -173,6 +182,7 @@ fn answer_call(
         &mut res[0..q],
     );
     print_answer(
+        to,
         shape,
         answer,
         front(output, o),
@@ -184,27 +194,40 @@ fn answer_call(
 }
 
 // Samples a secret, and prints it, which is the front of its buffer.
-fn answer_secret(a: Arguments, bytes: &[u8], signed: &mut [i8], text: &mut Text) -> bool {
+fn answer_secret<W: Write>(
+    to: &mut Stream<W>,
+    a: Arguments,
+    bytes: &[u8],
+    signed: &mut [i8],
+    text: &mut Text,
+) -> bool {
     let ends = a.ends;
     let n = call_words::least(a.signed, signed.len());
     let seed = call_arguments::part(bytes, ends, 0);
     let answer = sampling::gen_secret(a.numbers.number, seed, &mut signed[0..n]);
-    print_signed(answer, signed_front(signed, n), text)
+    print_signed(to, answer, signed_front(signed, n), text)
 }
 
 // Reads a record, and prints its entry and the ciphertext, which is the front of its buffer.
-fn answer_read(a: Arguments, bytes: &[u8], ciphertext: &mut [u8], text: &mut Text) -> bool {
+fn answer_read<W: Write>(
+    to: &mut Stream<W>,
+    a: Arguments,
+    bytes: &[u8],
+    ciphertext: &mut [u8],
+    text: &mut Text,
+) -> bool {
     let ends = a.ends;
     let n = call_words::least(call_arguments::part(bytes, ends, 5).len(), ciphertext.len());
     let read = record_reader::read_record(
         call_arguments::part(bytes, ends, 0),
         &mut ciphertext[0..n],
     );
-    print_read(read) && print(b" ") && print_word(front(ciphertext, n), text)
+    print_read(to, read) && print(to, b" ") && print_word(to, front(ciphertext, n), text)
 }
 
 // Prints the reply to a request: what it asks for, or why it cannot be read.
-fn reply(
+fn reply<W: Write>(
+    to: &mut Stream<W>,
     form: Form,
     a: Arguments,
     bytes: &Bytes,
@@ -218,21 +241,21 @@ fn reply(
     text: &mut Text,
 ) -> bool {
     if a.fault != call_words::SOUND {
-        return print_fault(a.fault);
+        return print_fault(to, a.fault);
     }
     let ends = a.ends;
     let request = form.request;
     call_arguments::fill(ends, bytes, left, right, output, extra, res);
     match request {
         Request::Call(call) => answer_call(
-            call, form.shape, a, bytes, left, right, output, extra, res, spare, text,
+            to, call, form.shape, a, bytes, left, right, output, extra, res, spare, text,
         ),
-        Request::GenSecret => answer_secret(a, bytes, signed, text),
+        Request::GenSecret => answer_secret(to, a, bytes, signed, text),
         Request::PublicKeyOf => {
             let key = keys::public_key_of(a.numbers.number, call_arguments::part(bytes, ends, 0));
-            print_word(key, text)
+            print_word(to, key, text)
         }
-        Request::ReadRecord => answer_read(a, bytes, output, text),
+        Request::ReadRecord => answer_read(to, a, bytes, output, text),
     }
 }
 
@@ -253,7 +276,7 @@ fn text_buffer() -> Text {
 }
 
 // Answers a request whose arguments start at a place of the line, and says whether all was written.
-fn answer_request(form: Form, line: &[u8], at: usize) -> bool
+fn answer_request<W: Write>(to: &mut Stream<W>, form: Form, line: &[u8], at: usize) -> bool
     requires { length line.now ≤ 65536 }
 {
     let mut bytes = byte_buffer();
@@ -268,6 +291,7 @@ fn answer_request(form: Form, line: &[u8], at: usize) -> bool
     let shape = form.shape;
     let a = call_arguments::read(shape, line, at, &mut bytes, &mut signed);
     reply(
+        to,
         form,
         a,
         &bytes,
@@ -291,17 +315,17 @@ fn is_comment(line: &[u8]) -> bool {
 }
 
 // Answers a line, unless it is a comment, and says whether all was written.
-pub fn answer(line: &[u8]) -> bool {
+pub fn answer<W: Write>(to: &mut Stream<W>, line: &[u8]) -> bool {
     if is_comment(line) {
         return true;
     }
     if line.len() > 65536 {
-        return print(b"error too long\n");
+        return print(to, b"error too long\n");
     }
     let end = call_words::word_end(line, 0);
     let is_written = match call_table::form_of(&line[0..end]) {
-        Found::Form(form) => answer_request(form, line, end + 1),
-        Found::Nothing => print(b"error unknown call"),
+        Found::Form(form) => answer_request(to, form, line, end + 1),
+        Found::Nothing => print(to, b"error unknown call"),
     };
-    is_written && print(b"\n")
+    is_written && print(to, b"\n")
 }

@@ -1,4 +1,6 @@
 // Encapsulation and decapsulation: document 01's sealing and unsealing, with the capsule as the ciphertext.
+#![tactic(auto)]
+
 ghost use Rattle.std.specs.Prelude.{◌≡◌, length};
 ghost use Rattle.kem.specs.Kem.{decaps_secret};
 ghost use Rattle.kem.specs.Promises.{Encapsulated, Decapsulated};

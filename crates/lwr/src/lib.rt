@@ -1,4 +1,6 @@
 // The vectors that the two sides exchange, in 10 bits a coefficient: making one, and its inner product with a secret.
+#![tactic(auto)]
+
 ghost use Rattle.std.specs.Prelude.{false, map, ◌≡◌, ℕ, ◌+◌, ◌*◌, length};
 ghost use Rattle.lists.specs.Strings.{placed};
 ghost use Rattle.algebra.specs.Ring.{nat, blocks};

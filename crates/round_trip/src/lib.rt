@@ -1,4 +1,6 @@
 // The four calls in turn: what is encapsulated to a generated key comes back, where the noise is within its bounds.
+#![tactic(auto)]
+
 ghost use Rattle.std.specs.Prelude.{◌≡◌, ◌*◌, take};
 ghost use Rattle.questions.specs.Answers.{earliest};
 ghost use Rattle.sets.specs.Sets.{params_of};
