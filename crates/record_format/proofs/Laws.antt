@@ -3,4 +3,5 @@ pub mod Doors
 pub mod Records
 pub mod Heads
 pub mod Calls
+pub mod Maps
 pub mod Before

@@ -56,15 +56,18 @@ error_is t =
     })
     (omega arith) (omega arith)
 
--- it lies in -3 .. 4
-pub error_range : (t : ℤ) → Lies 3 4 (error t)
-error_range t =
+-- it lies in -3 .. 4; apart from `error_range`, which says so and on which nothing rests here
+in_range : (t : ℤ) → Lies 3 4 (error t)
+in_range t =
     let x = pos 4 -ℤ pos ((modℤ t 8192 + 4) % 8) in
     let p = sub_split (pos 4) (pos ((modℤ t 8192 + 4) % 8)) in
     let q = one_sign x in
     rw (error_is t) (record { below = omega arith; above = omega arith })
 
+pub error_range : (t : ℤ) → Lies 3 4 (error t)
+error_range t = in_range t
+
 -- and so do e and e'
 pub errors_range : (n l : ℕ) (A : ℕ → ℕ → List ℕ) (s : ℕ → List ℤ) (i k : ℕ) → Lies 3 4 (at (errors n l A s i) k)
 unfolding errors
-errors_range n l A s i k = rw (get_or-map error (times n l A s i) k (pos 0)) (error_range (at (times n l A s i) k))
+errors_range n l A s i k = rw (get_or-map error (times n l A s i) k (pos 0)) (in_range (at (times n l A s i) k))

@@ -24,6 +24,7 @@ use Rattle.record_format.specs.Before as before
 use Rattle.record_format.specs.Promises.{Retrieved}
 use Rattle.record_format.proofs.Laws.Doors.{is_short}
 use Rattle.record_format.proofs.Laws.Heads.{head_steps}
+use Rattle.record_format.proofs.Laws.Maps.{no_wide}
 use Rattle.record_format.proofs.Laws.Calls.{given_back}
 
 -- bytes hold the number that they held
@@ -52,8 +53,8 @@ set_as_before (suc (suc (suc (suc n)))) rest =
 
 -- a string whose map has bits 0 to 3 alone
 module _ (s : List ℕ) (h : before.map_in s < 16) where
-  no_wide : digit 2 (map_in s) 4 ≡ 0
-  no_wide = omega arith
+  narrow : digit 2 (map_in s) 4 ≡ 0
+  narrow = no_wide s h
 
   pub head_as_before : head_in s ≡ before.head_in s
   unfolding or_else
@@ -62,11 +63,11 @@ module _ (s : List ℕ) (h : before.map_in s < 16) where
       let door = field_is (λ o. door_of (or_else o none)) (stands m 0) (number_is _) in
       let time = field_is time_of (stands m 1) (number_is _) in
       let set = field_is (λ o. get_or o 0) (stands m 2) (number_is _) in
-      sym (head_steps s refl refl (sym no_wide) refl (rw no_wide door) (rw add-zero time) (rw add-zero set))
+      sym (head_steps s refl refl (sym narrow) refl (rw narrow door) (rw add-zero time) (rw add-zero set))
 
   length_as_before : head_length (map_in s) ≡ before.ciphertext_at (map_in s)
   unfolding taken_by fields
-  length_as_before = omega (arith, no_wide)
+  length_as_before = omega (arith, narrow)
 
   pub rest_as_before : ciphertext_in s ≡ before.ciphertext_in s
   rest_as_before = rw length_as_before
@@ -74,7 +75,7 @@ module _ (s : List ℕ) (h : before.map_in s < 16) where
   map_as_before : is_map (map_in s) ≡ before.is_map (map_in s)
   map_as_before =
       let m = map_in s in
-      let few : ltb m 32 && not (stands m 0 && stands m 4) ≡ ltb m 16 = rw (lt-ltb m 32 (omega arith), no_wide, and_false, lt-ltb m 16 h) in
+      let few : ltb m 32 && not (stands m 0 && stands m 4) ≡ ltb m 16 = rw (lt-ltb m 32 (omega arith), narrow, and_false, lt-ltb m 16 h) in
       ap (λ (b : Bool). b && stands m 2 && stands m 3) few
 
   -- it is answered as it was, whether it is accepted or refused
@@ -82,7 +83,7 @@ module _ (s : List ℕ) (h : before.map_in s < 16) where
   unfolding earliest
   answer_as_before ct =
       let n = before.ciphertext_at (map_in s) in
-      rw (head_as_before, length_as_before, map_as_before, no_wide, set_as_before (before.set_in s) (λ k. ask (eqb (length s) (n + k)) 11 (ask (eqb ct k) 9 0)))
+      rw (head_as_before, length_as_before, map_as_before, narrow, set_as_before (before.set_in s) (λ k. ask (eqb (length s) (n + k)) 11 (ask (eqb ct k) 9 0)))
 
 -- every record that was accepted reads to the same entry as before
 pub read_as_before :

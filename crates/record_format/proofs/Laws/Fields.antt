@@ -1,5 +1,5 @@
 -- Laws of the fields that are numbers, for every list of fields: what was laid out is read back, and what was read is laid out as it was.
-use Rattle.std.specs.Prelude.{ℕ, zero, suc, ◌+◌, ◌*◌, ◌/◌, ◌^◌, ◌<◌, ◌≤◌, List, [], ◌∷◌, ◌++◌, ◌≡◌, refl, eqb, length, take, drop}
+use Rattle.std.specs.Prelude.{ℕ, zero, suc, ◌*◌, ◌/◌, ◌^◌, ◌<◌, ◌≤◌, List, [], ◌∷◌, ◌++◌, ◌≡◌, refl, eqb, length, take, drop}
 use Rattle.std.proofs.Common.{append_assoc, sym, ap, ap₂, ◌∙◌, mod-lt, zero-mul, one-mul, arith, length-append, length-drop, take_at, drop_at, take-add, length-take-le}
 use Rattle.std.proofs.Math.Option.{Option, none, some}
 use Rattle.lists.specs.Numbers.{number, digits, digit, Below}
