@@ -1,4 +1,6 @@
 // A line of the margin report, written.
+#![tactic(auto)]
+
 ghost use Rattle.std.specs.Prelude.{[], ◌∷◌, ◌++◌, ◌+◌, ◌≤◌, pos, ◌-ℤ◌, length};
 ghost use Rattle.decimals.specs.Decimals.{decimal};
 ghost use Rattle.decimals.specs.Signed.{number_text};
@@ -50,6 +52,7 @@ fn difference_into(a: usize, b: usize, at: usize, text: &mut [u8]) -> usize
 }
 
 // The smallest margin of a number of groups, by their largest norm, and `none` of no group.
+#[tactic(auto, using(crate::proofs::Least::none_long, crate::proofs::Least::none_written, crate::proofs::Least::some_long, crate::proofs::Least::some_written))]
 fn least_into(p: Params, cases: usize, norm: usize, at: usize, text: &mut [u8]) -> usize
     requires { at + length (least_text (least_of p cases norm)) ≤ length text.old }
     ensures { Appended text.old at (least_text (least_of p cases norm)) text.new result }

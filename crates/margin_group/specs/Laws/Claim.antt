@@ -1,10 +1,9 @@
 -- What a margin says of demand 3: it is not negative exactly where the noise is within the bounds, and then no message bit is wrong.
-use Rattle.std.specs.Prelude.{ℕ, ◌≤◌, Bool, true, false, cond, ◌↔◌, ◌≡◌, ℤ, pos, negsuc, nat_abs}
-use mathlib.Core.List.{List, [], ◌∷◌, map}
+use Rattle.std.specs.Prelude.{ℕ, ◌≤◌, true, ◌↔◌, ◌≡◌, ℤ, pos, negsuc, nat_abs}
+use mathlib.Core.List.{List, [], ◌∷◌}
 use Rattle.std.proofs.Math.Option.{Option, none, some}
 use Rattle.std.proofs.Math.Path.{refl}
 use Rattle.std.proofs.Common.{arith, eq-eqb}
-use Rattle.std.specs.Int.Signed.{lt_z}
 use Rattle.sets.specs.Sets.{params_of, known}
 use Rattle.sets.specs.Laws.Sets.{is_set_lem}
 use Rattle.algebra.specs.Integers.{dn}
@@ -20,7 +19,6 @@ use Rattle.margin_noise.specs.Norm
 use Rattle.margin_noise.specs.Laws.Bounds.{lies_magnitude, norm_bound, no_larger}
 use Rattle.margin_bits.specs.Bits.{differing}
 use Rattle.margin_group.specs.Margin.{matrix_seed, secret_seed, encaps_seed, norm, margin, received, wrong_bits}
-use Rattle.margin_group.specs.Margin.{groups, smaller, smallest, total, least, wrong}
 
 lies : (b : ℕ) (z : ℤ) → nat_abs z ≤ b → Lies b b z
 lies b (pos n) h = record { below = omega arith; above = h }
@@ -58,27 +56,3 @@ no_wrong_bit set k group h =
 abbrev pub Sound : Option ℤ → Type 0
 Sound none = Unit {0}
 Sound (some z) = dn z ≡ 0
-
-both : (x : ℤ) (y : Option ℤ) → dn (smaller x y) ≡ 0 → (dn x ≡ 0) × Sound y
-both x none h = (h, tt)
-both (pos a) (some (pos b)) h = (refl, refl)
-both (pos a) (some (negsuc b)) h = absurd (omega (arith, h))
-both (negsuc a) (some (pos b)) h = absurd (omega (arith, h))
-both (negsuc a) (some (negsuc b)) h = absurd (neither (lt_z (negsuc b) (negsuc a)) h)
-  where
-    neither : (less : Bool) → dn (cond less (negsuc b) (negsuc a)) ≡ 0 → ⊥
-    neither true e = omega (arith, e)
-    neither false e = omega (arith, e)
-
--- where the smallest margin is not negative, no bit is wrong
-module _ (set : ℕ) (k : known set ≡ true) where
-  all_sound : (gs : List (List ℕ)) → Sound (smallest (map (margin (params_of set)) gs)) → total (map (wrong_bits (params_of set)) gs) ≡ 0
-  unfolding smallest total
-  all_sound [] h = refl
-  all_sound (g ∷ gs) h =
-      let q = both (margin (params_of set) g) (smallest (map (margin (params_of set)) gs)) h in
-      omega (arith, no_wrong_bit set k g q.0, all_sound gs q.1)
-
-  pub none_wrong : (bytes : List ℕ) → Sound (least (params_of set) bytes) → wrong (params_of set) bytes ≡ 0
-  unfolding least wrong
-  none_wrong bytes h = all_sound (groups bytes) h
