@@ -44,14 +44,32 @@ pub nonzero_rem-low : goal.nonzero_rem-low
 nonzero_rem-low c = rw (base c.args.half c.args.x c.requires c.ranges.x.fits) (pow_pos c.args.half)
 
 pub overflow_cast-result : goal.overflow_cast-result
-overflow_cast-result c = record { sfits = omega (arith, low c.args.half c.args.x c.requires c.ranges.x.fits) }
+overflow_cast-result c = record {
+  sfits =
+      omega (
+        arith,
+        low c.args.half c.args.x c.requires c.ranges.x.fits,
+        high c.args.half c.args.x c.requires c.ranges.x.fits,
+      );
+}
 
 pub overflow_cast-result-2 : goal.overflow_cast-result-2
-overflow_cast-result-2 c = record { sfits = omega (arith, high c.args.half c.args.x c.requires c.ranges.x.fits) }
+overflow_cast-result-2 c = record {
+  sfits =
+      omega (
+        arith,
+        low c.args.half c.args.x c.requires c.ranges.x.fits,
+        high c.args.half c.args.x c.requires c.ranges.x.fits,
+      );
+}
 
 pub overflow_sub-result : goal.overflow_sub-result
 overflow_sub-result c =
-    fits (low c.args.half c.args.x c.requires c.ranges.x.fits) (high c.args.half c.args.x c.requires c.ranges.x.fits)
+    search (
+      fits,
+      low c.args.half c.args.x c.requires c.ranges.x.fits,
+      high c.args.half c.args.x c.requires c.ranges.x.fits,
+    )
 
 pub returns : goal.returns
 returns c =

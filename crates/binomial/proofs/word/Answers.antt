@@ -1,7 +1,6 @@
 -- `binomial::word` meets its contract: 65536 keeps the sum from falling below zero, and no cast changes a number.
 use Prim.Native.Nat.{ℕ, ◌+◌, ◌-◌, ◌%◌, ◌^◌, ◌<◌}
 use mathlib.Core.Path.{◌≡◌, sym, ap, subst, ◌∙◌}
-use native.Mathlib.Nat.{mod-lt}
 use native.Mathlib.Omega.{arith}
 use lib.Dec.{T}
 use lib.IntN.{ℤ, pos, negsuc, nat_abs, ◌+ℤ◌}
@@ -51,9 +50,6 @@ pub overflow_cast-result-2 : goal.overflow_cast-result-2
 overflow_cast-result-2 c =
     subst (λ (y : ℤ). T (non_neg y) × Fits w32 (nat_abs y)) (sym (kept c.args.z c.ranges.z))
     (tt, record { fits = omega (arith, fits c.args.z c.ranges.z) })
-
-pub overflow_cast-result-3 : goal.overflow_cast-result-3
-overflow_cast-result-3 c = record { fits = mod-lt _ (omega arith) }
 
 pub returns : goal.returns
 returns c = ap (λ (y : ℤ). nat_abs y % 65536) (kept c.args.z c.ranges.z) ∙ leaves c.args.z c.ranges.z

@@ -57,7 +57,9 @@ four t p h l d e k = to_write (more t p h l d e) 4 (omega arith) (omega arith) k
 pub store32-requires : goal.store32-requires
 store32-requires c =
     let t = c.loop-i in
-    four t.invariant c.requires.least c.loop-i-test.true (c.type_inv.coefficients t.i).fits c.wide.ensures c.append_bits-acc.ensures c.if-held-ge32.true
+    let f =
+    four t.invariant c.requires.least c.loop-i-test.true (c.type_inv.coefficients t.i).fits c.wide.ensures c.append_bits-acc.ensures c.if-held-ge32.true in
+    omega arith
 
 pub overflow_add-j : goal.overflow_add-j
 overflow_add-j c =
