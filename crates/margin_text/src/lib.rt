@@ -1,4 +1,6 @@
 // The margin report: what is printed of what is read.
+#![tactic(auto)]
+
 ghost use Rattle.std.specs.Prelude.{true, cond, ◌≡◌, ◌%◌, ◌<◌, ◌≤◌, ltb, length, take};
 ghost use Rattle.decimals.specs.Ensures.{Appended};
 ghost use Rattle.margin_text.specs.Report.{is_set, figures, refusal, report_of};

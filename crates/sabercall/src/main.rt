@@ -1,6 +1,12 @@
 // Reads requests from standard input, a line each, and answers them.
+#![tactic(auto)]
+
 ghost use Rattle.std.specs.Prelude.{◌≤◌, length};
 ghost use Rattle.sabercall.specs.Requires.{Good};
+
+use std::io;
+use std::io::{Read, Write};
+use streams::Stream;
 
 type Block = [u8; 65536];
 
@@ -16,16 +22,11 @@ struct State {
     open: bool,
 }
 
-// Answers the line of the first `kept` bytes. Where a write fails, says so right after it, while `errno` is that call's, and that there is
-// no more to do.
-fn answer(line: &[u8], kept: usize) -> bool
+// Answers the line of the first `kept` bytes, and says whether all was written. Where a write fails there is no more to do.
+fn answer<W: Write>(output: &mut Stream<W>, line: &[u8], kept: usize) -> bool
     requires { kept ≤ length line.now }
 {
-    let is_written = call_replies::answer(&line[0..kept]);
-    if !is_written {
-        os::fail(b"sabercall: standard output");
-    }
-    is_written
+    call_replies::answer(output, &line[0..kept])
 }
 
 // Keeps a byte at the end of a line that is not too long.
@@ -53,16 +54,20 @@ fn length_of(line: &Line, kept: usize) -> usize
     kept
 }
 
-// Reads another block. Input that ends in the middle of a line ends the line. Where it fails, that is said, and the line has no answer.
-fn refill(line: &Line, kept: usize, block: &mut Block) -> State
+// Reads another block. Input that ends in the middle of a line ends the line. Where it fails, the line has no answer.
+fn refill<R: Read, W: Write>(
+    input: &mut Stream<R>,
+    output: &mut Stream<W>,
+    line: &Line,
+    kept: usize,
+    block: &mut Block,
+) -> State
     requires { kept ≤ 65538 }
     ensures { Good result }
 {
-    let got = streams::read(block);
-    if got.failed {
-        os::fail(b"sabercall: standard input");
-    } else if !got.open & (kept > 0) {
-        answer(line, kept);
+    let got = streams::read(input, block);
+    if !got.failed & !got.open & (kept > 0) {
+        answer(output, line, kept);
     }
     State {
         at: 0,
@@ -73,14 +78,20 @@ fn refill(line: &Line, kept: usize, block: &mut Block) -> State
 }
 
 // Takes a byte of the block, and answers the line at a newline.
-fn turn(s: State, block: &mut Block, line: &mut Line) -> State
+fn turn<R: Read, W: Write>(
+    input: &mut Stream<R>,
+    output: &mut Stream<W>,
+    s: State,
+    block: &mut Block,
+    line: &mut Line,
+) -> State
     requires { Good s }
     ensures { Good result }
 {
     let at = s.at;
     let end = s.end;
     if at == end {
-        return refill(line, s.kept, block);
+        return refill(input, output, line, s.kept, block);
     }
     let b = block[at];
     if b == b'\n' {
@@ -89,7 +100,7 @@ fn turn(s: State, block: &mut Block, line: &mut Line) -> State
             at: at + 1,
             end,
             kept: 0,
-            open: answer(line, n),
+            open: answer(output, line, n),
         };
     }
     State {
@@ -100,13 +111,20 @@ fn turn(s: State, block: &mut Block, line: &mut Line) -> State
     }
 }
 
+fn block_buffer() -> Block {
+    [0; 65536]
+}
+
 fn line_buffer() -> Line {
     [0; 65538]
 }
 
-// A proved loop has to end, and nothing says that the input does, so the turns are counted down from a number that no run uses up.
-fn main() {
-    let mut block = io::large_buffer();
+// Says why a read or a write failed, where one did. A proved loop has to end, and nothing says that the input does, so the turns are counted
+// down from a number that no run uses up.
+fn main(rt: HostRuntime) -> io::Result<()> {
+    let mut input = Stream::new(rt.stdin());
+    let mut output = Stream::new(rt.stdout());
+    let mut block = block_buffer();
     let mut line = line_buffer();
     let mut s = State {
         at: 0,
@@ -117,10 +135,12 @@ fn main() {
     let mut turns = u64::MAX;
     while turns > 0 {
         if !s.open {
-            return;
+            streams::report(&rt, "sabercall: standard input", &input)?;
+            return streams::report(&rt, "sabercall: standard output", &output);
         }
-        let next = turn(s, &mut block, &mut line);
+        let next = turn(&mut input, &mut output, s, &mut block, &mut line);
         s = next;
         turns -= 1;
     }
+    Ok(())
 }

@@ -124,14 +124,18 @@ fn reason(text: &str) -> &str {
     }
 }
 
-// Says on standard error what failed, and why.
-pub fn fail<S>(rt: &(impl Eprint + AllocGlobal), what: &str, stream: &Stream<S>) -> io::Result<()> {
+// Says on standard error why a call on a stream failed last, where one did.
+pub fn report<S>(
+    rt: &(impl Eprint + AllocGlobal),
+    what: &str,
+    stream: &Stream<S>,
+) -> io::Result<()> {
     match &stream.error {
         Some(error) => {
             let text = format!(in rt.alloc(); "{error}")?;
             let reason = reason(text.as_str());
             eprintln!(rt; "{what}: {reason}")
         }
-        None => eprintln!(rt; "{what}"),
+        None => Ok(()),
     }
 }
