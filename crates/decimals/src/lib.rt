@@ -1,5 +1,5 @@
-// Decimal words: numbers up to a bound, and lists of signed numbers of eight bits. What reading gives; definitions and laws are in specs/. Where a
-// byte stands in a part of a string.
+// Decimal words: numbers up to a bound, and lists of signed numbers of eight bits. What reading gives, and where a byte stands in a part of a
+// string; definitions and laws are in specs/.
 #![tactic(auto)]
 
 ghost use Rattle.std.specs.Prelude.{◌≡◌, ◌+◌, ◌≤◌, length};
