@@ -10,8 +10,8 @@ use Rattle.std.proofs.Math.ListN.{get_or}
 use Rattle.std.proofs.lemmas.Bool.{lt-leb}
 use Rattle.decimals.specs.Decimals.{every, is_digit, is_decimal, value_behind, value, ReadDecimal, digit, digits_within, decimal}
 use Rattle.decimals.specs.Ensures.{Longer}
-use Rattle.lists.specs.Laws.Booleans.{and_right, and_true, and_assoc}
-use Rattle.lists.specs.Laws.Lists.{drop_next}
+use Rattle.lists.proofs.Laws.Booleans.{and_right, and_true, and_assoc}
+use Rattle.lists.proofs.Laws.Lists.{drop_next}
 
 pub digit_yes : (b : ℕ) → 48 ≤ b → b ≤ 57 → is_digit b ≡ true
 digit_yes b low high = rw (le-leb 48 b low, le-leb b 57 high)

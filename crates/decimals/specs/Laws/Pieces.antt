@@ -16,7 +16,7 @@ use Rattle.decimals.specs.Decimals.{every, is_decimal, fault, ReadDecimal}
 use Rattle.decimals.specs.Signed.{minus, comma, in_front, pieces, is_none, pieces_of, is_negative, is_formed, number_of, is_small}
 use Rattle.decimals.specs.Signed.{numbers_of, fault_of, ReadList}
 use Rattle.decimals.specs.Ensures.{ReadPiece}
-use Rattle.lists.specs.Laws.Booleans.{and_left}
+use Rattle.lists.proofs.Laws.Booleans.{and_left}
 
 -- ---- where the pieces part
 

@@ -6,7 +6,7 @@ use Rattle.std.proofs.Common.{◌∙◌, arith, length-append, drop_of_length-le
 use Rattle.std.proofs.Math.ListN.{length}
 use mir.Syntax.{w8}
 use mir.Val.{SFits}
-use Rattle.lists.specs.Laws.Lists.{drop_next}
+use Rattle.lists.proofs.Laws.Lists.{drop_next}
 use Rattle.decimals.specs.Signed.{minus, comma, number_text, further_text, list_text}
 use Rattle.decimals.specs.Ensures.{Appended}
 use Rattle.decimals.specs.Laws.Decimals.{decimal_long}

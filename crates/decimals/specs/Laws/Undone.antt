@@ -7,7 +7,7 @@ use Rattle.decimals.specs.Signed.{minus, comma, number_text, further_text, list_
 use Rattle.decimals.specs.Signed.{is_formed, number_of, is_small, numbers_of, fault_of, ReadList}
 use Rattle.decimals.specs.Laws.Decimals.{all_digits, spelled}
 use Rattle.decimals.specs.Laws.Pieces.{none_no}
-use Rattle.lists.specs.Laws.Booleans.{and_left, and_right}
+use Rattle.lists.proofs.Laws.Booleans.{and_left, and_right}
 
 -- ---- a number
 
