@@ -28,7 +28,7 @@ const LAST_TIME: usize = usize::MAX;
 const LAST_NUMBER: usize = 4294967295;
 
 // The numbers of a request.
-#[derive(Drop)]
+#[derive(Clone, Copy)]
 pub struct Numbers {
     pub door: Door,
     pub time: Time,
@@ -36,7 +36,7 @@ pub struct Numbers {
 }
 
 // The numbers of a request, where its other arguments stand in the bytes, how many signed numbers it has, and what is wrong with the line.
-#[derive(Drop)]
+#[derive(Clone, Copy)]
 pub struct Arguments {
     pub numbers: Numbers,
     pub ends: Ends,

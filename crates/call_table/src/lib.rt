@@ -4,7 +4,7 @@
 use call_arguments::Shape;
 
 // The calls that answer with a number.
-#[derive(Drop)]
+#[derive(Clone, Copy)]
 pub enum Call {
     Keygen,
     Encaps,
@@ -27,7 +27,7 @@ pub enum Call {
 
 // What can be asked for: a call, whose reply is its answer and every output; a secret, whose output is a signed list; the lookup, whose reply
 // is the part that it hands back; or the reading of a record, whose reply has the numbers of its entry between the answer and the output.
-#[derive(Drop)]
+#[derive(Clone, Copy)]
 pub enum Request {
     Call(Call),
     GenSecret,
@@ -36,13 +36,13 @@ pub enum Request {
 }
 
 // A request, and what it takes.
-#[derive(Drop)]
+#[derive(Clone, Copy)]
 pub struct Form {
     pub request: Request,
     pub shape: Shape,
 }
 
-#[derive(Drop)]
+#[derive(Clone, Copy)]
 pub enum Found {
     Form(Form),
     Nothing,

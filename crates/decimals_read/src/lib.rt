@@ -9,7 +9,7 @@ ghost use Rattle.decimals.specs.Ensures.{Longer, ReadPiece};
 use decimals::{BAD_DIGIT, Reading, SOUND, TOO_LARGE};
 
 // What reading a signed number gave.
-#[derive(Drop)]
+#[derive(Clone, Copy)]
 struct Piece {
     value: i8,
     fault: u8,

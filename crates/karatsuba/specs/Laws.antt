@@ -1,4 +1,3 @@
 pub mod Lay
 pub mod Fold
-pub mod Product
 pub mod Single

@@ -14,7 +14,7 @@ type Block = [u8; 65536];
 type Line = [u8; 65538];
 
 // Where the waiting bytes of the block are, how many bytes the line has, and whether there may be more to do.
-#[derive(Drop)]
+#[derive(Clone, Copy)]
 struct State {
     at: usize,
     end: usize,

@@ -1,6 +1,6 @@
 -- `karatsuba::rows_add` meets its contract: the operands laid, multiplied by halves, and folded.
 use Rattle.std.proofs.Common.{refl}
-use Rattle.karatsuba.specs.Laws.Product.{rows_scratch, rows_done}
+use Rattle.karatsuba.proofs.Laws.Product.{rows_scratch, rows_done}
 use Rattle.karatsuba.proofs.rows_add.Goals as goal
 
 pub split-requires : goal.split-requires
