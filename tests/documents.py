@@ -2,7 +2,7 @@
 
     python3 tests/documents.py
 
-The documents are those at the root, in docs/ and in bench/. Landing notes are of their time and are not read. A
+The documents are those at the root, in docs/ and in bench/. Landing notes and docs/PORT.md, which name what is gone, are not read. A
 definition is cited as `crate/File.name`, a law as `crate/Laws/File.name`, a proof as `crate/proofs/function`, whether
 the function has a folder there or is proved without files, one that calls itself as `crate/proofs/+function`, a function as
 `crate::function`, a wrong program by its crate and its name in backquotes, and a file by its path. A section is cited
@@ -16,6 +16,7 @@ from pathlib import Path
 
 ROOT = Path(__file__).resolve().parent.parent
 DOCUMENTS = ("*.md", "docs/*.md", "bench/*.md")
+PAST = ROOT / "docs/PORT.md"
 CRATES = {path.name: path for path in (ROOT / "crates").iterdir()}
 FOLDERS = r"(?:bench|bindings|crates|docs|examples|include|oracle|tests|tools|vectors)/"
 SPECS = re.compile(r"`(\w+)/((?:Laws/)?[A-Z]\w*)\.((?!(?:antt|md)`)[^`\s]+)`")
@@ -107,7 +108,7 @@ def misplaced():
 
 def main():
     total, lost = 0, []
-    for path in sorted(path for pattern in DOCUMENTS for path in ROOT.glob(pattern)):
+    for path in sorted({path for pattern in DOCUMENTS for path in ROOT.glob(pattern)} - {PAST}):
         for name, there in cited(path):
             total += 1
             if not there:

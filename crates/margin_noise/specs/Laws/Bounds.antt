@@ -9,7 +9,8 @@ use Rattle.algebra.specs.Ring.{at, coef, inner}
 use Rattle.algebra.proofs.Laws.Whole.{add_split, up_mul, dn_mul, up_neg, dn_neg}
 use Rattle.algebra.proofs.Laws.Product.{at_inner}
 use Rattle.noise.specs.Noise.{Lies, transposed, e, e'}
-use Rattle.noise.proofs.Laws.Errors.{errors_range, one_sign}
+use Rattle.noise.proofs.Laws.Errors.{one_sign}
+use Rattle.noise.proofs.Laws.Range.{errors_range}
 use Rattle.margin_noise.specs.Norm.{norm}
 use Rattle.margin_noise.specs.Requires.{Small}
 

@@ -1,13 +1,11 @@
 -- Laws of numbers taken about zero, and of the error of rounding.
-use Rattle.std.specs.Prelude.{ℕ, ◌+◌, ◌*◌, ◌-◌, ◌/◌, ◌%◌, ◌<◌, ◌≤◌, List, ◌≡◌, ℤ, pos, negsuc, neg_ℤ, ◌+ℤ◌, ◌*ℤ◌, ◌-ℤ◌}
+use Rattle.std.specs.Prelude.{ℕ, ◌+◌, ◌*◌, ◌-◌, ◌/◌, ◌%◌, ◌<◌, ◌≤◌, ◌≡◌, ℤ, pos, negsuc, neg_ℤ, ◌+ℤ◌, ◌*ℤ◌, ◌-ℤ◌}
 use Rattle.std.proofs.Common.{◌∙◌, mod-eq_of_lt, arith}
-use Rattle.std.proofs.Math.ListN.{get_or-map}
 use Rattle.algebra.specs.Integers.{up, dn, modℤ, Same}
 use Rattle.algebra.proofs.Laws.Whole.{eqℤ, up_neg, dn_neg, add_split}
 use Rattle.algebra.proofs.Laws.Residues.{mod_of, same_residue}
-use Rattle.algebra.specs.Ring.{at}
 use Rattle.rounding.specs.Rounding.{round}
-use Rattle.noise.specs.Noise.{around, Lies, error, times, errors}
+use Rattle.noise.specs.Noise.{around, Lies, error}
 
 -- a whole number is not above zero and below it at once
 pub one_sign : (z : ℤ) → up z - dn z ≡ up z
@@ -56,18 +54,10 @@ error_is t =
     })
     (omega arith) (omega arith)
 
--- it lies in -3 .. 4; apart from `error_range`, which says so and on which nothing rests here
-in_range : (t : ℤ) → Lies 3 4 (error t)
-in_range t =
+-- it lies in -3 .. 4
+pub error_range : (t : ℤ) → Lies 3 4 (error t)
+error_range t =
     let x = pos 4 -ℤ pos ((modℤ t 8192 + 4) % 8) in
     let p = sub_split (pos 4) (pos ((modℤ t 8192 + 4) % 8)) in
     let q = one_sign x in
     rw (error_is t) (record { below = omega arith; above = omega arith })
-
-pub error_range : (t : ℤ) → Lies 3 4 (error t)
-error_range t = in_range t
-
--- and so do e and e'
-pub errors_range : (n l : ℕ) (A : ℕ → ℕ → List ℕ) (s : ℕ → List ℤ) (i k : ℕ) → Lies 3 4 (at (errors n l A s i) k)
-unfolding errors
-errors_range n l A s i k = rw (get_or-map error (times n l A s i) k (pos 0)) (in_range (at (times n l A s i) k))
