@@ -23,12 +23,7 @@ from pathlib import Path
 ROOT = Path(__file__).resolve().parent.parent
 
 # Edits whose first error shows nothing, each with the reason why it stays: "crate/label": "reason".
-EXCUSED = {
-    "decimals_write/sign_lost": "the number in the test names the step, so the answers of `number_into` do not apply",
-    "margin_line/half_the_bound": "the search tries the laws of proofs/Least at `least_into`, and has no more to say",
-    "margin_line/none_for_one": "the search tries the laws of proofs/Least at `least_into`, and has no more to say",
-    "margin_text/default_taken": "`is_set` has no proof file, since the search proves it",
-}
+EXCUSED = {}
 
 TRIED = re.compile(r"^rt: must-fail (\w+)/([\w.-]+)\.edit: (.*)", re.MULTILINE)
 REFUSED = "refused, as it must be"
@@ -80,6 +75,7 @@ CLASSES = {
     "types that differ": (
         SOMETHING,
         r"\bexpected type `|but this has type `|` ≟ `|the two (?:types|sides) (?:are `|differ only|first differ)"
+        r"|the two (?:types|sides) agree until one ends"
         r"|^`Rattle\.[^`]*$",  # a term that is cut off before the one with which it is compared
     ),
 }

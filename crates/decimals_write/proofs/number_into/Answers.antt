@@ -1,5 +1,5 @@
 -- `decimals_write::number_into` meets its contract: a minus and the magnitude, which has up to three digits, or the magnitude alone.
-use Rattle.std.proofs.Common.{arith}
+use Rattle.std.proofs.Common.{arith, rules}
 use Rattle.decimals.specs.Laws.Decimals.{decimal_long}
 use Rattle.decimals.specs.Laws.Texts.{appended_as, appended_two}
 use Rattle.decimals.specs.Laws.Signs.{negative_text, plain_text}
@@ -11,7 +11,7 @@ decimal_into-requires c =
 
 pub returns-then-z-lt0 : goal.returns-then-z-lt0
 returns-then-z-lt0 c =
-    appended_as (negative_text _ c.ranges.z c.magnitude-n.ensures c.if-z-lt0.true)
+    appended_as (negative_text _ c.ranges.z c.magnitude-n.ensures (search rules))
     (appended_two c.put-next.ensures c.decimal_into.ensures)
 
 pub decimal_into-requires-2 : goal.decimal_into-requires-2
@@ -19,4 +19,4 @@ decimal_into-requires-2 c = omega (arith, decimal_long 2 c.magnitude-n.result (o
 
 pub returns : goal.returns
 returns c =
-    appended_as (plain_text _ c.ranges.z c.magnitude-n.ensures c.if-z-lt0.false) c.decimal_into-2.ensures
+    appended_as (plain_text _ c.ranges.z c.magnitude-n.ensures (search rules)) c.decimal_into-2.ensures
