@@ -2,12 +2,13 @@
 
     python3 tests/documents.py
 
-The documents are those at the root, in docs/ and in bench/. Landing notes and docs/PORT.md, which name what is gone, are not read. A
-definition is cited as `crate/File.name`, a law as `crate/Laws/File.name`, a proof as `crate/proofs/function`, whether
-the function has a folder there or is proved without files, one that calls itself as `crate/proofs/+function`, a function as
-`crate::function`, a wrong program by its crate and its name in backquotes, and a file by its path. A section is cited
-by its title in quotes, after its file or before the word below or above. README.md's table of the layers has every
-crate once, below the crates that it stands on. It exits with 1 where something is not so.
+The documents are those at the root, in docs/ and in bench/. Landing notes, docs/PORT.md and docs/DESIGN-PASS.md,
+which name what is gone, are not read. A definition is cited as `crate/File.name`, a law as `crate/Laws/File.name`, a
+proof as `crate/proofs/function`, whether the function has a folder there or is proved without files, one that calls
+itself as `crate/proofs/+function`, a function as `crate::function`, a wrong program by its crate and its name in
+backquotes, and a file by its path. A section is cited by its title in quotes, after its file or before the word below
+or above. README.md's table of the layers has every crate once, below the crates that it stands on. It exits with 1
+where something is not so.
 """
 
 import re
@@ -16,7 +17,7 @@ from pathlib import Path
 
 ROOT = Path(__file__).resolve().parent.parent
 DOCUMENTS = ("*.md", "docs/*.md", "bench/*.md")
-PAST = ROOT / "docs/PORT.md"
+PAST = {ROOT / "docs/PORT.md", ROOT / "docs/DESIGN-PASS.md"}
 CRATES = {path.name: path for path in (ROOT / "crates").iterdir()}
 FOLDERS = r"(?:bench|bindings|crates|docs|examples|include|oracle|tests|tools|vectors)/"
 SPECS = re.compile(r"`(\w+)/((?:Laws/)?[A-Z]\w*)\.((?!(?:antt|md)`)[^`\s]+)`")
@@ -108,7 +109,7 @@ def misplaced():
 
 def main():
     total, lost = 0, []
-    for path in sorted({path for pattern in DOCUMENTS for path in ROOT.glob(pattern)} - {PAST}):
+    for path in sorted({path for pattern in DOCUMENTS for path in ROOT.glob(pattern)} - PAST):
         for name, there in cited(path):
             total += 1
             if not there:

@@ -17,10 +17,8 @@ pub fn weigh_bytes(bytes: &[u8], output: &mut [i8])
     ensures { output.new ≡ map (weighed 4) bytes.now }
 {
     let table = WEIGHTS;
-    let mut i = 0;
-    while i < output.len() {
+    for i in 0..output.len() {
         output[i] = table[bytes[i] as usize];
-        i += 1;
     }
 }
 
@@ -29,8 +27,8 @@ fn weigh(half: u32, x: u16) -> i8
     requires { half ≤ 8 }
     ensures { result ≡ weighed half x }
 {
-    let low = u16::count_ones(x % (1u16 << half));
-    let high = u16::count_ones(x >> half);
+    let low = (x % (1u16 << half)).count_ones();
+    let high = (x >> half).count_ones();
     (low as i8) - (high as i8)
 }
 
@@ -39,10 +37,8 @@ pub fn weigh_numbers(half: u32, numbers: &[u16], output: &mut [i8])
     requires { (half ≤ 8) × (length output.old ≡ length numbers.now) }
     ensures { output.new ≡ map (weighed half) numbers.now }
 {
-    let mut i = 0;
-    while i < output.len() {
+    for i in 0..output.len() {
         output[i] = weigh(half, numbers[i]);
-        i += 1;
     }
 }
 
@@ -58,14 +54,13 @@ pub fn words_into(signed: &[i8], output: &mut [u16])
     requires { length output.old ≡ length signed.now }
     ensures { output.new ≡ residues 65536 signed.now }
 {
-    let mut i = 0;
-    while i < output.len() {
+    for i in 0..output.len() {
         output[i] = word(signed[i]);
-        i += 1;
     }
 }
 
 // Signed numbers modulo 8192, as they are packed and multiplied.
+#[tactic(auto, using(ring::specs::Laws::Products::reduced))]
 pub fn residues_into(signed: &[i8], output: &mut [u16])
     requires { length output.old ≡ length signed.now }
     ensures { output.new ≡ residues 8192 signed.now }

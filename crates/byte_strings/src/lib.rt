@@ -5,15 +5,13 @@ ghost use Rattle.std.specs.Prelude.{cond, ◌++◌, ◌≡◌, ◌+◌, ◌≤�
 ghost use Rattle.lists.specs.Strings.{same, placed};
 
 // Copies a string to a place of a larger one.
+#[tactic(auto, unfolding(lists::specs::Strings::placed))]
 pub fn copy_at(from: &[u8], at: usize, to: &mut [u8])
     requires { at + length from.now ≤ length to.old }
     ensures { to.new ≡ placed at from.now to.old }
 {
-    let mut i = 0;
-    while i < from.len() {
-        to[at + i] = from[i];
-        i += 1;
-    }
+    let end = at + from.len();
+    to[at..end].copy_from_slice(from);
 }
 
 // The bits in which bytes of two strings of one length differ, gathered: 0 where the strings are the same. Every byte is compared, also after a
@@ -23,10 +21,8 @@ pub fn difference(a: &[u8], b: &[u8]) -> u8
     ensures { eqb result 0 ≡ same a.now b.now }
 {
     let mut bits = 0u8;
-    let mut i = 0;
-    while i < a.len() {
-        bits = bits | (a[i] ^ b[i]);
-        i += 1;
+    for i in 0..a.len() {
+        bits |= a[i] ^ b[i];
     }
     bits
 }
@@ -45,10 +41,8 @@ pub fn choose(difference: u8, a: &[u8], b: &[u8], out: &mut [u8])
     requires { (length a.now ≡ length out.old) × (length b.now ≡ length out.old) }
     ensures { out.new ≡ cond (eqb difference 0) a.now b.now }
 {
-    let mut i = 0;
-    while i < out.len() {
+    for i in 0..out.len() {
         out[i] = either(difference, a[i], b[i]);
-        i += 1;
     }
 }
 

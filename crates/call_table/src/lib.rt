@@ -1,164 +1,319 @@
 // The library's calls by name, and what each takes.
 #![tactic(auto)]
 
-use call_arguments::Shape;
+ghost use Rattle.std.specs.Prelude.{◌≡◌, ◌<◌, length, Err};
+ghost use Rattle.call_words.specs.declared.Fault.TheVariants.{TooLong};
 
-// The calls that answer with a number.
+use call_arguments::Arguments;
+use call_words::{Fault, Words};
+use std::alloc::Global;
+
+// A line of more bytes is not read.
+const LONGEST: usize = 65536;
+
+// The ways of multiplying two polynomials.
 #[derive(Clone, Copy)]
-pub enum Call {
-    Keygen,
-    Encaps,
-    Decaps,
-    Encrypt,
-    Decrypt,
-    GenMatrix,
-    PolyMul,
-    PolyMulKaratsuba,
-    Round,
-    ReconData,
-    Recover,
-    Pack,
-    Unpack,
+pub enum Multiplication {
+    Schoolbook,
+    Karatsuba,
+}
+
+// The hashes of a string.
+#[derive(Clone, Copy)]
+pub enum HashFunction {
     Shake128,
     Sha3256,
     Sha3512,
-    WriteRecord,
 }
 
-// What can be asked for: a call, whose reply is its answer and every output; a secret, whose output is a signed list; the lookup, whose reply
-// is the part that it hands back; or the reading of a record, whose reply has the numbers of its entry between the answer and the output.
-#[derive(Clone, Copy)]
+// What can be asked for. An output is the content of the buffer that a call is lent.
+#[derive(Drop)]
 pub enum Request {
-    Call(Call),
-    GenSecret,
-    PublicKeyOf,
-    ReadRecord,
+    Keygen {
+        set: u32,
+        matrix_seed: Vec<u8>,
+        secret_seed: Vec<u8>,
+        z: Vec<u8>,
+        public_key: Vec<u8>,
+        secret_key: Vec<u8>,
+    },
+    Encaps {
+        set: u32,
+        public_key: Vec<u8>,
+        seed: Vec<u8>,
+        ciphertext: Vec<u8>,
+        shared_secret: Vec<u8>,
+    },
+    Decaps {
+        set: u32,
+        secret_key: Vec<u8>,
+        ciphertext: Vec<u8>,
+        shared_secret: Vec<u8>,
+    },
+    Encrypt {
+        set: u32,
+        public_key: Vec<u8>,
+        message: Vec<u8>,
+        seed: Vec<u8>,
+        ciphertext: Vec<u8>,
+    },
+    Decrypt {
+        set: u32,
+        secret_key: Vec<u8>,
+        ciphertext: Vec<u8>,
+        message: Vec<u8>,
+    },
+    GenMatrix {
+        set: u32,
+        seed: Vec<u8>,
+        matrix: Vec<u16>,
+    },
+    GenSecret {
+        set: u32,
+        seed: Vec<u8>,
+        secret: Vec<i8>,
+    },
+    PolyMul {
+        way: Multiplication,
+        modulus: u32,
+        left: Vec<u16>,
+        right: Vec<u16>,
+        product: Vec<u16>,
+    },
+    Round {
+        coefficients: Vec<u16>,
+        rounded: Vec<u16>,
+    },
+    ReconData {
+        set: u32,
+        coefficients: Vec<u16>,
+        recon: Vec<u16>,
+    },
+    Recover {
+        set: u32,
+        coefficients: Vec<u16>,
+        recon: Vec<u16>,
+        bits: Vec<u16>,
+    },
+    Pack {
+        width: u32,
+        coefficients: Vec<u16>,
+        bytes: Vec<u8>,
+    },
+    Unpack {
+        width: u32,
+        bytes: Vec<u8>,
+        coefficients: Vec<u16>,
+    },
+    Hash {
+        hash: HashFunction,
+        input: Vec<u8>,
+        output: Vec<u8>,
+    },
+    PublicKeyOf {
+        set: u32,
+        secret_key: Vec<u8>,
+    },
+    ReadRecord {
+        record: Vec<u8>,
+        ciphertext: Vec<u8>,
+    },
+    WriteRecord {
+        door: Option<u32>,
+        time: Option<u64>,
+        set: u32,
+        ciphertext: Vec<u8>,
+        record: Vec<u8>,
+    },
 }
 
-// A request, and what it takes.
-#[derive(Clone, Copy)]
-pub struct Form {
-    pub request: Request,
-    pub shape: Shape,
+// What each call takes. Arguments stand in the order of the fields.
+
+fn keygen(arguments: &mut Arguments<'_>) -> Result<Request, Fault> {
+    Ok(Request::Keygen {
+        set: arguments.number()?,
+        matrix_seed: arguments.bytes()?,
+        secret_seed: arguments.bytes()?,
+        z: arguments.bytes()?,
+        public_key: arguments.bytes()?,
+        secret_key: arguments.bytes()?,
+    })
 }
 
-#[derive(Clone, Copy)]
-pub enum Found {
-    Form(Form),
-    Nothing,
+fn encaps(arguments: &mut Arguments<'_>) -> Result<Request, Fault> {
+    Ok(Request::Encaps {
+        set: arguments.number()?,
+        public_key: arguments.bytes()?,
+        seed: arguments.bytes()?,
+        ciphertext: arguments.bytes()?,
+        shared_secret: arguments.bytes()?,
+    })
 }
 
-// A form where its name is the one that is asked for, and else what was found before.
-fn select(found: Found, asked: &[u8], name: &[u8], form: Form) -> Found {
-    if asked == name {
-        return Found::Form(form);
+fn decaps(arguments: &mut Arguments<'_>) -> Result<Request, Fault> {
+    Ok(Request::Decaps {
+        set: arguments.number()?,
+        secret_key: arguments.bytes()?,
+        ciphertext: arguments.bytes()?,
+        shared_secret: arguments.bytes()?,
+    })
+}
+
+fn encrypt(arguments: &mut Arguments<'_>) -> Result<Request, Fault> {
+    Ok(Request::Encrypt {
+        set: arguments.number()?,
+        public_key: arguments.bytes()?,
+        message: arguments.bytes()?,
+        seed: arguments.bytes()?,
+        ciphertext: arguments.bytes()?,
+    })
+}
+
+fn decrypt(arguments: &mut Arguments<'_>) -> Result<Request, Fault> {
+    Ok(Request::Decrypt {
+        set: arguments.number()?,
+        secret_key: arguments.bytes()?,
+        ciphertext: arguments.bytes()?,
+        message: arguments.bytes()?,
+    })
+}
+
+fn gen_matrix(arguments: &mut Arguments<'_>) -> Result<Request, Fault> {
+    Ok(Request::GenMatrix {
+        set: arguments.number()?,
+        seed: arguments.bytes()?,
+        matrix: arguments.list()?,
+    })
+}
+
+fn gen_secret(arguments: &mut Arguments<'_>) -> Result<Request, Fault> {
+    Ok(Request::GenSecret {
+        set: arguments.number()?,
+        seed: arguments.bytes()?,
+        secret: arguments.signed()?,
+    })
+}
+
+fn poly_mul(way: Multiplication, arguments: &mut Arguments<'_>) -> Result<Request, Fault> {
+    Ok(Request::PolyMul {
+        way,
+        modulus: arguments.number()?,
+        left: arguments.list()?,
+        right: arguments.list()?,
+        product: arguments.list()?,
+    })
+}
+
+fn round(arguments: &mut Arguments<'_>) -> Result<Request, Fault> {
+    Ok(Request::Round {
+        coefficients: arguments.list()?,
+        rounded: arguments.list()?,
+    })
+}
+
+fn recon_data(arguments: &mut Arguments<'_>) -> Result<Request, Fault> {
+    Ok(Request::ReconData {
+        set: arguments.number()?,
+        coefficients: arguments.list()?,
+        recon: arguments.list()?,
+    })
+}
+
+fn recover(arguments: &mut Arguments<'_>) -> Result<Request, Fault> {
+    Ok(Request::Recover {
+        set: arguments.number()?,
+        coefficients: arguments.list()?,
+        recon: arguments.list()?,
+        bits: arguments.list()?,
+    })
+}
+
+fn pack(arguments: &mut Arguments<'_>) -> Result<Request, Fault> {
+    Ok(Request::Pack {
+        width: arguments.number()?,
+        coefficients: arguments.list()?,
+        bytes: arguments.bytes()?,
+    })
+}
+
+fn unpack(arguments: &mut Arguments<'_>) -> Result<Request, Fault> {
+    Ok(Request::Unpack {
+        width: arguments.number()?,
+        bytes: arguments.bytes()?,
+        coefficients: arguments.list()?,
+    })
+}
+
+fn hash(hash: HashFunction, arguments: &mut Arguments<'_>) -> Result<Request, Fault> {
+    Ok(Request::Hash {
+        hash,
+        input: arguments.bytes()?,
+        output: arguments.bytes()?,
+    })
+}
+
+fn public_key_of(arguments: &mut Arguments<'_>) -> Result<Request, Fault> {
+    Ok(Request::PublicKeyOf {
+        set: arguments.number()?,
+        secret_key: arguments.bytes()?,
+    })
+}
+
+fn read_record(arguments: &mut Arguments<'_>) -> Result<Request, Fault> {
+    Ok(Request::ReadRecord {
+        record: arguments.bytes()?,
+        ciphertext: arguments.bytes()?,
+    })
+}
+
+fn write_record(arguments: &mut Arguments<'_>) -> Result<Request, Fault> {
+    Ok(Request::WriteRecord {
+        door: arguments.door()?,
+        time: arguments.time()?,
+        set: arguments.number()?,
+        ciphertext: arguments.bytes()?,
+        record: arguments.bytes()?,
+    })
+}
+
+// Reads what the call of a name takes.
+fn read(name: &[u8], arguments: &mut Arguments<'_>) -> Result<Request, Fault> {
+    match name {
+        b"keygen" => keygen(arguments),
+        b"encaps" => encaps(arguments),
+        b"decaps" => decaps(arguments),
+        b"encrypt" => encrypt(arguments),
+        b"decrypt" => decrypt(arguments),
+        b"gen_matrix" => gen_matrix(arguments),
+        b"gen_secret" => gen_secret(arguments),
+        b"poly_mul" => poly_mul(Multiplication::Schoolbook, arguments),
+        b"poly_mul_karatsuba" => poly_mul(Multiplication::Karatsuba, arguments),
+        b"round" => round(arguments),
+        b"recon_data" => recon_data(arguments),
+        b"recover" => recover(arguments),
+        b"pack" => pack(arguments),
+        b"unpack" => unpack(arguments),
+        b"shake128" => hash(HashFunction::Shake128, arguments),
+        b"sha3_256" => hash(HashFunction::Sha3256, arguments),
+        b"sha3_512" => hash(HashFunction::Sha3512, arguments),
+        b"public_key_of" => public_key_of(arguments),
+        b"read_record" => read_record(arguments),
+        b"write_record" => write_record(arguments),
+        _ => Err(Fault::UnknownCall),
     }
-    found
 }
 
-// The form of a call without optional numbers.
-fn call_form(
-    found: Found,
-    asked: &[u8],
-    name: &[u8],
-    call: Call,
-    numbers: usize,
-    strings: usize,
-    lists: usize,
-    byte_outputs: usize,
-    list_outputs: usize,
-) -> Found {
-    let shape = Shape {
-        optionals: 0,
-        numbers,
-        strings,
-        lists,
-        byte_outputs,
-        list_outputs,
-        signed_outputs: 0,
-    };
-    let request = Request::Call(call);
-    select(found, asked, name, Form { request, shape })
-}
-
-// The form of a request without lists.
-fn byte_form(
-    found: Found,
-    asked: &[u8],
-    name: &[u8],
-    request: Request,
-    optionals: usize,
-    numbers: usize,
-    strings: usize,
-    byte_outputs: usize,
-) -> Found {
-    let shape = Shape {
-        optionals,
-        numbers,
-        strings,
-        lists: 0,
-        byte_outputs,
-        list_outputs: 0,
-        signed_outputs: 0,
-    };
-    select(found, asked, name, Form { request, shape })
-}
-
-// The table, by families. Each function has the form of its family that has the name, or else what was found before.
-fn scheme_form(f: Found, name: &[u8]) -> Found {
-    // name, numbers, byte strings, lists, byte outputs, list outputs
-    let f = call_form(f, name, b"keygen", Call::Keygen, 1, 3, 0, 2, 0);
-    let f = call_form(f, name, b"encaps", Call::Encaps, 1, 2, 0, 2, 0);
-    let f = call_form(f, name, b"decaps", Call::Decaps, 1, 2, 0, 1, 0);
-    let f = call_form(f, name, b"encrypt", Call::Encrypt, 1, 3, 0, 1, 0);
-    call_form(f, name, b"decrypt", Call::Decrypt, 1, 2, 0, 1, 0)
-}
-
-fn polynomial_form(f: Found, name: &[u8]) -> Found {
-    let f = call_form(f, name, b"gen_matrix", Call::GenMatrix, 1, 1, 0, 0, 1);
-    let f = call_form(f, name, b"poly_mul", Call::PolyMul, 1, 0, 2, 0, 1);
-    let karatsuba = Call::PolyMulKaratsuba;
-    let f = call_form(f, name, b"poly_mul_karatsuba", karatsuba, 1, 0, 2, 0, 1);
-    let f = call_form(f, name, b"round", Call::Round, 0, 0, 1, 0, 1);
-    let f = call_form(f, name, b"recon_data", Call::ReconData, 1, 0, 1, 0, 1);
-    call_form(f, name, b"recover", Call::Recover, 1, 0, 2, 0, 1)
-}
-
-fn byte_string_form(f: Found, name: &[u8]) -> Found {
-    let f = call_form(f, name, b"pack", Call::Pack, 1, 0, 1, 1, 0);
-    let f = call_form(f, name, b"unpack", Call::Unpack, 1, 1, 0, 0, 1);
-    let f = call_form(f, name, b"shake128", Call::Shake128, 0, 1, 0, 1, 0);
-    let f = call_form(f, name, b"sha3_256", Call::Sha3256, 0, 1, 0, 1, 0);
-    call_form(f, name, b"sha3_512", Call::Sha3512, 0, 1, 0, 1, 0)
-}
-
-fn entry_form(f: Found, name: &[u8]) -> Found {
-    // name, optional numbers, numbers, byte strings, byte outputs
-    let f = byte_form(f, name, b"public_key_of", Request::PublicKeyOf, 0, 1, 1, 0);
-    let f = byte_form(f, name, b"read_record", Request::ReadRecord, 0, 0, 1, 1);
-    let write = Request::Call(Call::WriteRecord);
-    byte_form(f, name, b"write_record", write, 2, 1, 1, 1)
-}
-
-fn secret_form(f: Found, name: &[u8]) -> Found {
-    let shape = Shape {
-        optionals: 0,
-        numbers: 1,
-        strings: 1,
-        lists: 0,
-        byte_outputs: 0,
-        list_outputs: 0,
-        signed_outputs: 1,
-    };
-    let request = Request::GenSecret;
-    select(f, name, b"gen_secret", Form { request, shape })
-}
-
-// The form of the request with this name.
-pub fn form_of(name: &[u8]) -> Found {
-    let f = scheme_form(Found::Nothing, name);
-    let f = polynomial_form(f, name);
-    let f = byte_string_form(f, name);
-    let f = entry_form(f, name);
-    secret_form(f, name)
+// The request of a line.
+pub fn request_of(alloc: Global, line: &[u8]) -> Result<Request, Fault>
+    ensures { 65536 < length line.now → result ≡ Err TooLong }
+{
+    if line.len() > LONGEST {
+        return Err(Fault::TooLong);
+    }
+    let mut words = Words::new(line);
+    let name = words.word()?;
+    let mut arguments = Arguments::new(alloc, words);
+    let request = read(name, &mut arguments)?;
+    arguments.finish()?;
+    Ok(request)
 }

@@ -1,10 +1,8 @@
 -- Decimal numbers as words: digits, the highest first.
-use Rattle.std.specs.Prelude.{ℕ, zero, suc, ◌+◌, ◌-◌, ◌*◌, ◌/◌, ◌%◌, ◌≤◌, Bool, true, cond, ◌&&◌, List, [], ◌∷◌, ◌++◌, ◌≡◌, ltb, leb, length}
-
--- a test says yes of every element
-unfoldable pub every : {A : Type 0} → (A → Bool) → List A → Bool
-every f [] = true
-every f (x ∷ xs) = f x && every f xs
+use Rattle.std.specs.Prelude.{ℕ, zero, suc, ◌+◌, ◌-◌, ◌*◌, ◌/◌, ◌%◌, Bool, cond, ◌&&◌, List, [], ◌∷◌, ◌++◌, Result, Ok, Err, ltb, leb, length}
+use Rattle.std.specs.List.{list_all}
+use Rattle.decimals.specs.declared.Fault.{Fault}
+use Rattle.decimals.specs.declared.Fault.TheVariants.{BadDigit, TooLarge}
 
 -- ---- the text of a number
 
@@ -30,7 +28,7 @@ is_digit b = leb (digit 0) b && leb b (digit 9)
 
 -- one digit or more
 unfoldable pub is_decimal : List ℕ → Bool
-is_decimal word = ltb 0 (length word) && every is_digit word
+is_decimal word = ltb 0 (length word) && list_all is_digit word
 
 -- the number that digits spell behind those of v
 unfoldable pub value_behind : ℕ → List ℕ → ℕ
@@ -40,12 +38,10 @@ value_behind v (b ∷ bs) = value_behind (v * 10 + (b - digit 0)) bs
 abbrev pub value : List ℕ → ℕ
 value word = value_behind 0 word
 
--- what is wrong with a word: 2, a bad digit, where it is not formed; else 4, too large, where a number is not small; else 0, nothing
-abbrev pub fault : Bool → Bool → ℕ
-fault formed small = cond formed (cond small 0 4) 2
+-- what reading gives: x of a word that is formed and small; a bad digit comes before a number that is too large
+abbrev pub read_as : {A : Type 0} → Bool → Bool → A → Result A Fault
+read_as formed small x = cond formed (cond small (Ok x) (Err TooLarge)) (Err BadDigit)
 
--- what was read of a word as a number up to `most`: its value v, or the fault f
-pub record ReadDecimal (most : ℕ) (word : List ℕ) (v f : ℕ) : Type 0 where
-  pub faults : f ≡ fault (is_decimal word) (leb (value word) most)
-  pub within : v ≤ most
-  pub number : f ≡ 0 → v ≡ value word
+-- what a word reads as: a number up to `most`
+unfoldable pub number_read : ℕ → List ℕ → Result ℕ Fault
+number_read most word = read_as (is_decimal word) (leb (value word) most) (value word)

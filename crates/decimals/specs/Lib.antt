@@ -1,5 +1,4 @@
 pub mod Decimals
 pub mod Signed
 pub mod Places
-pub mod Ensures
 pub mod Laws

@@ -1,6 +1,9 @@
 -- Lists of signed numbers as words: decimals with commas between, `-` before a negative one, and just `-` for the empty list.
-use Rattle.std.specs.Prelude.{ℕ, suc, Bool, true, false, cond, ◌&&◌, List, [], ◌∷◌, ◌++◌, map, ◌≡◌, leb, eqb, ℤ, pos, negsuc, neg_ℤ, length, get_or, take, drop}
-use Rattle.decimals.specs.Decimals.{every, decimal, is_decimal, value, fault}
+use Rattle.std.specs.Prelude.{ℕ, suc, Bool, cond, ◌&&◌, List, [], ◌∷◌, ◌++◌, map, Result, leb, eqb, ℤ, pos, negsuc, neg_ℤ, length, get_or, take, drop}
+use Rattle.std.specs.List.{flat_map, list_all, slice_split}
+use Rattle.std.specs.Result.{result_map_both}
+use Rattle.decimals.specs.declared.Fault.{Fault}
+use Rattle.decimals.specs.Decimals.{decimal, is_decimal, value, read_as}
 
 abbrev pub minus : ℕ
 minus = 45
@@ -16,9 +19,8 @@ number_text (pos n) = decimal n
 number_text (negsuc n) = minus ∷ decimal (suc n)
 
 -- numbers, each behind a comma
-unfoldable pub further_text : List ℤ → List ℕ
-further_text [] = []
-further_text (z ∷ zs) = comma ∷ number_text z ++ further_text zs
+abbrev pub further_text : List ℤ → List ℕ
+further_text zs = flat_map (λ z. comma ∷ number_text z) zs
 
 unfoldable pub list_text : List ℤ → List ℕ
 list_text [] = minus ∷ []
@@ -26,16 +28,9 @@ list_text (z ∷ zs) = number_text z ++ further_text zs
 
 -- ---- what a word reads as
 
--- pieces with one byte more in front, which is a comma or not
-abbrev pub in_front : Bool → ℕ → List (List ℕ) → List (List ℕ)
-in_front true b ps = [] ∷ ps
-in_front false b [] = []
-in_front false b (p ∷ ps) = (b ∷ p) ∷ ps
-
 -- what stands between the commas
 unfoldable pub pieces : List ℕ → List (List ℕ)
-pieces [] = [] ∷ []
-pieces (b ∷ bs) = in_front (eqb b comma) b (pieces bs)
+pieces word = slice_split (λ b. eqb b comma) word
 
 -- just `-`
 unfoldable pub is_none : List ℕ → Bool
@@ -66,11 +61,13 @@ is_small (negsuc n) = leb n 127
 unfoldable pub numbers_of : List ℕ → List ℤ
 numbers_of word = map number_of (pieces_of word)
 
--- a bad digit anywhere comes before a number that is too large
-unfoldable pub fault_of : List ℕ → ℕ
-fault_of word = fault (every is_formed (pieces_of word)) (every is_small (numbers_of word))
+-- what a piece reads as, and what a word does: a bad digit anywhere comes before a number that is too large
+unfoldable pub piece_read : List ℕ → Result ℤ Fault
+piece_read piece = read_as (is_formed piece) (is_small (number_of piece)) (number_of piece)
 
--- what was read of a word: the first n numbers of a list, or the fault f
-pub record ReadList (word : List ℕ) (list : List ℤ) (n f : ℕ) : Type 0 where
-  pub faults : f ≡ fault_of word
-  pub numbers : f ≡ 0 → take n list ≡ numbers_of word
+unfoldable pub list_read : List ℕ → Result (List ℤ) Fault
+list_read word = read_as (list_all is_formed (pieces_of word)) (list_all is_small (numbers_of word)) (numbers_of word)
+
+-- what was read of a word: so many numbers at the front of a list, or what is wrong
+abbrev pub read_to : List ℤ → Result ℕ Fault → Result (List ℤ) Fault
+read_to list read = result_map_both (λ n. take n list) (λ e. e) read

@@ -1,22 +1,15 @@
-// Decimal words: numbers up to a bound, and lists of signed numbers of eight bits. What reading gives, and where a byte stands in a part of a
-// string; definitions and laws are in specs/.
+// Decimal words: numbers up to a bound, and lists of signed numbers of eight bits. What is wrong with a word, and where a byte stands in a part
+// of a string; definitions and laws are in specs/.
 #![tactic(auto)]
 
 ghost use Rattle.std.specs.Prelude.{◌≡◌, ◌+◌, ◌≤◌, length};
 ghost use Rattle.decimals.specs.Places.{slice, index_of};
 
-// What is wrong with a word, or nothing.
-pub const SOUND: u8 = 0;
-
-pub const BAD_DIGIT: u8 = 2;
-
-pub const TOO_LARGE: u8 = 4;
-
-// What reading gave: the number, or how many numbers there are, and what is wrong.
-#[derive(Clone, Copy)]
-pub struct Reading {
-    pub value: usize,
-    pub fault: u8,
+// What is wrong with a word.
+#[derive(Clone, Copy, Debug, PartialEq, Eq)]
+pub enum Fault {
+    BadDigit,
+    TooLarge,
 }
 
 // The first place of a byte from `at` on and before `end`, or else `end`.

@@ -1,146 +1,85 @@
 // Decimal words read: numbers up to a bound, and lists of signed numbers of eight bits.
 #![tactic(auto)]
 
-ghost use Rattle.std.specs.Prelude.{◌≡◌, ◌*◌, ◌≤◌, pos, neg_ℤ, length, get_or};
-ghost use Rattle.decimals.specs.Decimals.{ReadDecimal};
-ghost use Rattle.decimals.specs.Signed.{ReadList};
-ghost use Rattle.decimals.specs.Ensures.{Longer, ReadPiece};
+ghost use Rattle.std.specs.Prelude.{◌≡◌, ◌+◌, ◌*◌, ◌≤◌, true, leb, length, IfOk};
+ghost use Rattle.decimals.specs.Decimals.{is_decimal, read_as, number_read};
+ghost use Rattle.decimals.specs.Signed.{piece_read, list_read, read_to};
 
-use decimals::{BAD_DIGIT, Reading, SOUND, TOO_LARGE};
-
-// What reading a signed number gave.
-#[derive(Clone, Copy)]
-struct Piece {
-    value: i8,
-    fault: u8,
-}
+use decimals::Fault;
 
 // A number with one digit more, too large above `most`.
-fn append(number: Reading, digit: u8, most: usize) -> Reading
-    ensures { Longer most number.value number.fault digit result.value result.fault }
+fn append(number: usize, digit: u8, most: usize) -> Result<usize, Fault>
+    ensures { result ≡ read_as true (leb (number * 10 + digit) most) (number * 10 + digit) }
 {
-    let value = number.value;
-    let d = digit as usize;
-    if value <= most / 10 {
-        if d <= most - value * 10 {
-            return Reading {
-                value: value * 10 + d,
-                fault: number.fault,
-            };
-        }
-    }
-    Reading {
-        value,
-        fault: TOO_LARGE,
-    }
+    number
+        .checked_mul(10)
+        .and_then(|tens| tens.checked_add(digit as usize))
+        .filter(|longer| *longer <= most)
+        .ok_or(Fault::TooLarge)
+}
+
+// Whether a word is one digit or more.
+#[tactic(auto, unfolding(decimals::specs::Decimals::is_decimal))]
+fn is_decimal(word: &[u8]) -> bool
+    ensures { result ≡ is_decimal word.now }
+{
+    !word.is_empty() && word.iter().all(|b| b.is_ascii_digit())
 }
 
 // A word as a number up to `most`.
-pub fn decimal_of(word: &[u8], most: usize) -> Reading
-    ensures { ReadDecimal most word.now result.value result.fault }
+#[tactic(auto, using(decimals::specs::Laws::Decimals::digit_least))]
+pub fn decimal_of(word: &[u8], most: usize) -> Result<usize, Fault>
+    ensures number { result ≡ number_read most word.now }
+    ensures within { IfOk result (λ v. v ≤ most) }
 {
-    let bad = Reading {
-        value: 0,
-        fault: BAD_DIGIT,
-    };
-    if word.len() == 0 {
-        return bad;
+    if !is_decimal(word) {
+        return Err(Fault::BadDigit);
     }
-    let mut number = Reading {
-        value: 0,
-        fault: SOUND,
-    };
-    let mut i = 0;
-    while i < word.len() {
-        let b = word[i];
-        if b < b'0' {
-            return bad;
-        }
-        if b > b'9' {
-            return bad;
-        }
-        let longer = append(number, b - b'0', most);
-        number = longer;
-        i += 1;
+    let mut number = 0;
+    for b in word {
+        number = append(number, *b - b'0', most)?;
     }
-    number
-}
-
-// The first byte of a piece, and 0 where it has none.
-fn first(piece: &[u8]) -> u8
-    ensures { result ≡ get_or piece.now 0 0 }
-{
-    if piece.len() == 0 {
-        return 0;
-    }
-    piece[0]
-}
-
-// A number made negative. 128 itself does not fit.
-fn negated(n: usize) -> i8
-    requires { n ≤ 128 }
-    ensures { result ≡ neg_ℤ (pos n) }
-{
-    if n == 0 {
-        return 0;
-    }
-    -1 - ((n - 1) as i8)
+    Ok(number)
 }
 
 // What stands between two commas as a number.
-fn piece_of(piece: &[u8]) -> Piece
-    ensures { ReadPiece piece.now result.value result.fault }
+fn piece_of(piece: &[u8]) -> Result<i8, Fault>
+    ensures { result ≡ piece_read piece.now }
 {
-    if first(piece) == b'-' {
-        let magnitude = decimal_of(&piece[1..piece.len()], 128);
-        return Piece {
-            value: negated(magnitude.value),
-            fault: magnitude.fault,
-        };
-    }
-    let number = decimal_of(piece, 127);
-    Piece {
-        value: number.value as i8,
-        fault: number.fault,
+    match piece {
+        [b'-', digits @ ..] => {
+            let magnitude = decimal_of(digits, 128)?;
+            Ok(-(magnitude as i16) as i8)
+        }
+        _ => {
+            let number = decimal_of(piece, 127)?;
+            Ok(number as i8)
+        }
     }
 }
 
-// Reads a word as signed numbers, which go to the front of a list. A number takes a byte and a comma, or is the last one, so that a list
-// with half as many places is long enough.
-pub fn signed_of(word: &[u8], list: &mut [i8]) -> Reading
+// Reads a word as signed numbers, which go to the front of a list, and says how many they are. A number takes a byte and a comma, or is the
+// last one, so that a list with half as many places is long enough.
+pub fn signed_of(word: &[u8], list: &mut [i8]) -> Result<usize, Fault>
     requires { length word.now ≤ 2 * length list.old }
-    ensures { ReadList word.now list.new result.value result.fault }
+    ensures numbers { read_to list.new result ≡ list_read word.now }
+    ensures within { IfOk result (λ n. n ≤ length list.new) }
 {
     if word == b"-".as_slice() {
-        return Reading {
-            value: 0,
-            fault: SOUND,
-        };
+        return Ok(0);
     }
-    let mut fault = SOUND;
-    let mut count = 0;
-    let mut at = 0;
-    loop {
-        let end = decimals::find(word, at, word.len(), b',');
-        let piece = piece_of(&word[at..end]);
-        if piece.fault == BAD_DIGIT {
-            return Reading {
-                value: 0,
-                fault: BAD_DIGIT,
-            };
+    let mut read = Ok(0);
+    for piece in word.split(|b| *b == b',') {
+        match piece_of(piece) {
+            Ok(number) => {
+                if let Ok(count) = read {
+                    list[count] = number;
+                    read = Ok(count + 1);
+                }
+            }
+            Err(Fault::BadDigit) => return Err(Fault::BadDigit),
+            Err(Fault::TooLarge) => read = Err(Fault::TooLarge),
         }
-        let value = piece.value;
-        list[count] = value;
-        count += 1;
-        if piece.fault != SOUND {
-            fault = piece.fault;
-        }
-        if end == word.len() {
-            return Reading {
-                value: count,
-                fault,
-            };
-        }
-        at = end + 1;
     }
+    read
 }

@@ -4,12 +4,13 @@
 ghost use Rattle.std.specs.Prelude.{◌≡◌, ℕ, ◌+◌, ◌*◌, ◌≤◌, length};
 ghost use Rattle.lists.specs.Lists.{from};
 ghost use Rattle.algebra.specs.Ring.{poly, blocks};
+ghost use Rattle.questions.specs.Refusals.{answer_of};
 ghost use Rattle.ring.specs.Promises.{Multiplied};
 ghost use Rattle.karatsuba.specs.Ensures.{fold_at, fold_row, Chunk, LaidChunk, Laid, source, rows_added};
 ghost use Rattle.karatsuba.specs.Requires.{LayScratch, ChunkScratch, FoldedScratch, RowsScratch};
 
 use karatsuba_base::put;
-use std::num;
+use questions::Refusal;
 
 // The scratch that `rows_add` requires for one row: 1256 places a row, and 864.
 pub const ONE_ROW_WORK: usize = 1256 + 864;
@@ -23,10 +24,8 @@ fn chunk(f: &[u16], s: usize) -> [u16; 24]
     ensures { Chunk f.now s 16 result }
 {
     let mut r = [0u16; 24];
-    let mut k = 0;
-    while k < 16 {
+    for k in 0..16 {
         r[k + 8] = f[s + k];
-        k += 1;
     }
     r
 }
@@ -36,11 +35,9 @@ fn lay_chunk(rows: usize, a: &[u16], b: &[u16], g: usize, at: usize, work: &mut 
     requires { ChunkScratch rows (length a.now) (length b.now) g (at + 24 * (rows + 1)) (length work.old) }
     ensures { LaidChunk (source rows a.now b.now) g (rows + 1) at work.old work.new }
 {
-    let mut i = 0;
-    while i < rows {
+    for i in 0..rows {
         let r = chunk(a, 256 * i + 16 * g);
         put(&r, at + 24 * i, work);
-        i += 1;
     }
     let r = chunk(b, 16 * g);
     put(&r, at + 24 * rows, work);
@@ -51,10 +48,8 @@ fn lay(rows: usize, a: &[u16], b: &[u16], work: &mut [u16])
     requires { LayScratch rows (length a.now) (length b.now) (length work.old) }
     ensures { Laid rows (source rows a.now b.now) 16 work.old work.new }
 {
-    let mut g = 0;
-    while g < 16 {
+    for g in 0..16 {
         lay_chunk(rows, a, b, g, 24 * ((rows + 1) * g), work);
-        g += 1;
     }
 }
 
@@ -64,10 +59,8 @@ fn folded(work: &[u16], x: usize, y: usize, old: &[u16], o: usize) -> [u16; 16]
     ensures { result ≡ from 16 (fold_at work.now x y old.now o) }
 {
     let mut r = [0u16; 16];
-    let mut k = 0;
-    while k < 16 {
-        r[k] = num::wrapping_add_u16(old[o + k], num::wrapping_sub_u16(work[x + k], work[y + k]));
-        k += 1;
+    for k in 0..16 {
+        r[k] = old[o + k].wrapping_add(work[x + k].wrapping_sub(work[y + k]));
     }
     r
 }
@@ -77,12 +70,10 @@ fn fold_row(work: &[u16], x: usize, s: usize, out: &mut [u16])
     requires { (x + 31 * s + 16 ≤ length work.now) × (length out.old ≡ 256) }
     ensures { out.new ≡ from 256 (fold_row work.now x s out.old) }
 {
-    let mut g = 0;
-    while g < 16 {
+    for g in 0..16 {
         let p = x + s * g;
         let r = folded(work, p, p + 16 * s, out, 16 * g);
         put(&r, 16 * g, out);
-        g += 1;
     }
 }
 
@@ -92,12 +83,9 @@ fn fold(rows: usize, work: &[u16], x: usize, out: &mut [u16])
     ensures { out.new
         ≡ blocks rows (λ (i : ℕ). from 256 (fold_row work.now (x + 16 * i) (16 * rows) (poly out.old i))) }
 {
-    let mut i = 0;
-    while i < rows {
+    for i in 0..rows {
         let p = 256 * i;
-        let e = p + 256;
-        fold_row(work, x + 16 * i, 16 * rows, &mut out[p..e]);
-        i += 1;
+        fold_row(work, x + 16 * i, 16 * rows, &mut out[p..p + 256]);
     }
 }
 
@@ -112,28 +100,20 @@ pub fn rows_add(rows: usize, a: &[u16], b: &[u16], work: &mut [u16], out: &mut [
     fold(rows, work, x, out);
 }
 
-// Zeros.
-fn clear(out: &mut [u16])
-    ensures { out.new ≡ from (length out.old) (λ (k : ℕ). 0) }
-{
-    let mut k = 0;
-    while k < out.len() {
-        out[k] = 0;
-        k += 1;
-    }
-}
-
 // The ring product by halves: Q2, Q7, Q8, Q9.
-pub fn poly_mul_karatsuba(modulus: u32, a: &[u16], b: &[u16], product: &mut [u16]) -> u8
-    ensures { Multiplied modulus a.now b.now product.old result product.new }
+#[tactic(auto, using(ring::specs::Laws::Products::mul_fits, ring::specs::Laws::Products::mul_modulus))]
+pub fn poly_mul_karatsuba(
+    modulus: u32,
+    a: &[u16],
+    b: &[u16],
+    product: &mut [u16],
+) -> Result<(), Refusal>
+    ensures { Multiplied modulus a.now b.now product.old (answer_of result) product.new }
 {
-    let r = ring::mul_answer(modulus, a, b, product.len());
-    if r != 0 {
-        return r;
-    }
+    ring::mul_answer(modulus, a, b, product.len())?;
     let mut work = [0u16; ONE_ROW_WORK];
-    clear(product);
+    product.fill(0);
     rows_add(1, a, b, &mut work, product);
     ring::reduce(modulus as u16, product);
-    0
+    Ok(())
 }

@@ -2,7 +2,7 @@
 use Rattle.std.specs.Prelude.{◌≡◌, ℕ, ◌+◌, ◌*◌, ◌≤◌, List, length}
 use Rattle.karatsuba_base.specs.Layout.{Blank, Apart}
 
--- what `terms`, `lower` and `upper` require: eight coefficients, and sixteen between eight zeros on each side
+-- what `terms` and `added` require: eight coefficients, and sixteen between eight zeros on each side
 pub record TermsLengths (p padded : ℕ) : Type 0 where
   pub eight : p ≡ 8
   pub whole : padded ≡ 32

@@ -6,56 +6,45 @@
 #![tactic(auto)]
 
 ghost use Rattle.std.specs.Prelude.{◌≡◌, ℕ, ◌+◌, ◌<◌, ◌≤◌, length, pos, slice_index};
-ghost use Rattle.lists.specs.Lists.{from};
 ghost use Rattle.algebra.specs.Integers.{Same};
 ghost use Rattle.algebra.specs.Halves.{window};
 ghost use Rattle.karatsuba_base.specs.Layout.{reads};
-ghost use Rattle.karatsuba_base.specs.Ensures.{Put, Lower, Upper, Plain};
+ghost use Rattle.karatsuba_base.specs.Ensures.{Put, Added, Both, Plain};
 ghost use Rattle.karatsuba_base.specs.Requires.{TermsLengths, PlainScratch};
-
-use ring::times;
-use std::num;
 
 // The sum of p_i padded_(t+8-i) for the eight i, modulo 65536; `padded` holds sixteen coefficients between eight zeros on each side.
 fn terms(p: &[u16], padded: &[u16], t: usize) -> u16
     requires { TermsLengths (length p.now) (length padded.now) × (t < 24) }
     ensures { Same 65536 (pos result) (window (reads p.now) (reads padded.now) t) }
 {
-    let mut s: u16 = 0;
-    let mut i = 0;
-    while i < p.len() {
-        s = num::wrapping_add_u16(s, times(p[i], padded[t + 8 - i]));
-        i += 1;
+    let mut s = 0u16;
+    for i in 0..p.len() {
+        s = s.wrapping_add(p[i].wrapping_mul(padded[t + 8 - i]));
     }
     s
 }
 
-// The product of eight coefficients and the sixteen padded ones.
-fn lower(p: &[u16], padded: &[u16]) -> [u16; 32]
-    requires { TermsLengths (length p.now) (length padded.now) }
-    ensures { Lower p.now padded.now 24 result }
+// The sums, and from place `at` on the product of eight coefficients and the sixteen padded ones added.
+#[inline(always)]
+fn added(p: &[u16], padded: &[u16], at: usize, sums: [u16; 32]) -> [u16; 32]
+    requires { TermsLengths (length p.now) (length padded.now) × (at ≤ 8) }
+    ensures { Added p.now padded.now at sums 24 result }
 {
-    let mut r = [0u16; 32];
-    let mut k = 0;
-    while k < 24 {
-        r[k] = terms(p, padded, k);
-        k += 1;
+    let mut r = sums;
+    for k in 0..24 {
+        r[at + k] = sums[at + k].wrapping_add(terms(p, padded, k));
     }
     r
 }
 
-// The product of the next eight coefficients and the same sixteen, added.
-fn upper(p: &[u16], padded: &[u16], low: [u16; 32]) -> [u16; 32]
-    requires { TermsLengths (length p.now) (length padded.now) }
-    ensures { Upper p.now padded.now low 24 result }
+// The product of sixteen coefficients b and the sixteen padded ones, eight of b at a time.
+#[inline(always)]
+fn product(b: &[u16], padded: &[u16]) -> [u16; 32]
+    requires { (length b.now ≡ 16) × (length padded.now ≡ 32) }
+    ensures { Both b.now padded.now result }
 {
-    let mut r = low;
-    let mut k = 0;
-    while k < 24 {
-        r[k + 8] = num::wrapping_add_u16(low[k + 8], terms(p, padded, k));
-        k += 1;
-    }
-    r
+    let low = added(&b[0..8], padded, 0, [0u16; 32]);
+    added(&b[8..16], padded, 8, low)
 }
 
 // r, at the place `at`.
@@ -63,25 +52,9 @@ pub fn put(r: &[u16], at: usize, work: &mut [u16])
     requires { at + length r.now ≤ length work.old }
     ensures { Put at (length r.now) (λ (k : ℕ). slice_index r.now k) work.old work.new }
 {
-    let mut k = 0;
-    while k < r.len() {
-        work[at + k] = r[k];
-        k += 1;
+    for (k, x) in r.iter().enumerate() {
+        work[at + k] = *x;
     }
-}
-
-// The sixteen places from b on.
-fn sixteen(work: &[u16], b: usize) -> [u16; 16]
-    requires { b + 16 ≤ length work.now }
-    ensures { result ≡ from 16 (λ (k : ℕ). slice_index work.now (b + k)) }
-{
-    let mut r = [0u16; 16];
-    let mut k = 0;
-    while k < 16 {
-        r[k] = work[b + k];
-        k += 1;
-    }
-    r
 }
 
 // The plain product of 16 coefficients, for one row.
@@ -90,10 +63,7 @@ fn plain_one(a: usize, out: usize, work: &mut [u16])
     ensures { Plain 1 1 a out work.old work.new }
 {
     let b = a + 32;
-    let mid = a + 40;
-    let end = a + 48;
-    let low = lower(&work[b..mid], &work[a..b]);
-    let r = upper(&work[mid..end], &work[a..b], low);
+    let r = product(&work[b..b + 16], &work[a..b]);
     put(&r[0..16], out, work);
     put(&r[16..32], out + 16, work);
 }
@@ -103,17 +73,15 @@ fn plain_rows(rows: usize, a: usize, out: usize, work: &mut [u16])
     requires { PlainScratch rows a out work.old }
     ensures { Plain rows rows a out work.old work.new }
 {
-    let b = sixteen(work, a + 24 * rows + 8);
-    let mut i = 0;
-    while i < rows {
+    let first = a + 24 * rows + 8;
+    let mut b = [0u16; 16];
+    b.copy_from_slice(&work[first..first + 16]);
+    for i in 0..rows {
         let s = a + 24 * i;
-        let e = s + 32;
-        let low = lower(&b[0..8], &work[s..e]);
-        let r = upper(&b[8..16], &work[s..e], low);
+        let r = product(&b, &work[s..s + 32]);
         let x = out + 16 * i;
         put(&r[0..16], x, work);
         put(&r[16..32], x + 16 * rows, work);
-        i += 1;
     }
 }
 

@@ -2,9 +2,8 @@
 use Rattle.std.specs.Prelude.{◌≡◌, ℕ, ◌+◌, ◌*◌, ◌%◌, ◌^◌, ◌≤◌, List, length}
 use Rattle.karatsuba_base.specs.Layout.{Blank, Apart}
 
--- what `add` requires: whole chunks with their zeros, and the sums behind what is added
+-- what `add` requires: the sums behind what is added
 pub record SumScratch (x y at m size : ℕ) : Type 0 where
-  pub whole : m % 24 ≡ 0
   pub first : x + m ≤ at
   pub second : y + m ≤ at
   pub left : at + m ≤ size

@@ -5,39 +5,22 @@
 #![tactic(auto)]
 
 ghost use Rattle.std.specs.Prelude.{◌≡◌, ℕ, ◌+◌, ◌%◌, ◌≤◌, length, slice_index};
-ghost use Rattle.lists.specs.Lists.{from};
 ghost use Rattle.karatsuba_base.specs.Ensures.{Put};
 ghost use Rattle.karatsuba_split.specs.Ensures.{Quarters, Joined, Halved};
 ghost use Rattle.karatsuba_split.specs.Requires.{SumScratch, JoinScratch, SplitScratch};
 
 use karatsuba_base::{plain, put};
-use std::num;
-
-// The 24 places from x on and those from y on, added.
-fn sum(work: &[u16], x: usize, y: usize) -> [u16; 24]
-    requires { (x + 24 ≤ length work.now) × (y + 24 ≤ length work.now) }
-    ensures { result ≡ from 24 (λ (k : ℕ). (slice_index work.now (x + k) + slice_index work.now (y + k)) % 65536) }
-{
-    let mut r = [0u16; 24];
-    let mut k = 0;
-    while k < 24 {
-        r[k] = num::wrapping_add_u16(work[x + k], work[y + k]);
-        k += 1;
-    }
-    r
-}
 
 // The m places from x on and those from y on, added, at the place `at`.
+#[tactic(auto, using(crate::specs::Laws::Sums::sums_behind))]
 fn add(x: usize, y: usize, at: usize, m: usize, work: &mut [u16])
     requires { SumScratch x y at m (length work.old) }
     ensures { Put at m (λ (k : ℕ). (slice_index work.old (x + k) + slice_index work.old (y + k)) % 65536)
         work.old work.new }
 {
-    let mut i = 0;
-    while i < m {
-        let r = sum(work, x + i, y + i);
-        put(&r, at + i, work);
-        i += 24;
+    let (operands, sums) = work.split_at_mut(at);
+    for k in 0..m {
+        sums[k] = operands[x + k].wrapping_add(operands[y + k]);
     }
 }
 
@@ -52,15 +35,13 @@ fn quarters(work: &[u16], out: usize, low: usize, q: usize) -> [u16; 48]
     let third = second + q;
     let fourth = third + q;
     let mut r = [0u16; 48];
-    let mut k = 0;
-    while k < 16 {
-        let x = num::wrapping_sub_u16(work[upper + k], work[third + k]);
-        let y = num::wrapping_sub_u16(work[out + k], work[low + k]);
-        let z = num::wrapping_sub_u16(work[second + k], work[fourth + k]);
+    for k in 0..16 {
+        let x = work[upper + k].wrapping_sub(work[third + k]);
+        let y = work[out + k].wrapping_sub(work[low + k]);
+        let z = work[second + k].wrapping_sub(work[fourth + k]);
         r[k] = work[low + k];
-        r[k + 16] = num::wrapping_add_u16(x, y);
-        r[k + 32] = num::wrapping_sub_u16(z, x);
-        k += 1;
+        r[k + 16] = x.wrapping_add(y);
+        r[k + 32] = z.wrapping_sub(x);
     }
     r
 }
@@ -70,14 +51,13 @@ fn join(out: usize, low: usize, q: usize, work: &mut [u16])
     requires { JoinScratch out low q (length work.old) }
     ensures { Joined out low q q work.old work.new }
 {
-    let mut n = 0;
-    while n < q {
+    for i in 0..q / 16 {
+        let n = 16 * i;
         let x = out + n;
         let r = quarters(work, x, low + n, q);
         put(&r[0..16], x, work);
         put(&r[16..32], x + q, work);
         put(&r[32..48], x + q + q, work);
-        n += 16;
     }
 }
 

@@ -6,14 +6,22 @@ ghost use Rattle.lists.specs.Strings.{same};
 ghost use Rattle.sha3.specs.Hashes.{sha3_512};
 ghost use Rattle.kdf.specs.Kdf.{secret_under};
 
+// Two strings of 32 bytes, one after the other.
+fn joined(a: &[u8], b: &[u8]) -> [u8; 64]
+    requires { (length a.now ≡ 32) × (length b.now ≡ 32) }
+    ensures { result ≡ a.now ++ b.now }
+{
+    let mut both = [0u8; 64];
+    byte_strings::join(a, b, &mut both);
+    both
+}
+
 // SHA3-512 of m and the hash of the public key: k, and then r, the coins of encryption.
 pub fn key_and_coins(message: &[u8; 32], hash: &[u8]) -> [u8; 64]
     requires { length hash.now ≡ 32 }
     ensures { result ≡ sha3_512 (message.now ++ hash.now) }
 {
-    let mut input = [0u8; 64];
-    byte_strings::join(message, hash, &mut input);
-    sha3::hash512(&input)
+    sha3::hash512(&joined(message, hash))
 }
 
 // The secret of a ciphertext under a key: under k the shared one, under z the rejected one.
@@ -22,9 +30,7 @@ pub fn secret_under(key: &[u8], ciphertext: &[u8]) -> [u8; 32]
     ensures { result ≡ secret_under key.now ciphertext.now }
 {
     let hash = sha3::hash256(ciphertext);
-    let mut input = [0u8; 64];
-    byte_strings::join(key, &hash, &mut input);
-    sha3::hash256(&input)
+    sha3::hash256(&joined(key, &hash))
 }
 
 // The secret of a ciphertext under k where it is the one made again, else under z, by the same steps.

@@ -2,11 +2,6 @@
 use Rattle.std.specs.Prelude.{ℕ, ◌+◌, ◌*◌, ◌≡◌}
 use Rattle.sets.specs.declared.Params.{Params}
 use Rattle.sets.specs.Requires.{IsSet}
-use Rattle.scheme_questions.specs.Requires.{EncapsLengths}
-
-pub record EncapsScratch (p : Params) (pk secret ct ss : ℕ) : Type 0 where
-  pub fits : EncapsLengths p pk ct ss
-  pub secret_long : secret ≡ 256 * p.l
 
 -- the secret key of its set's length, a ciphertext, and scratch for a secret and for the ciphertext made again
 pub record AgainScratch (p : Params) (sk ct secret again : ℕ) : Type 0 where

@@ -1,19 +1,21 @@
 // Making keys, their layout, and the public key inside a secret key.
 #![tactic(auto)]
 
-ghost use Rattle.std.specs.Prelude.{true, ◌++◌, ◌≡◌, length};
+ghost use Rattle.std.specs.Prelude.{true, ◌++◌, ◌≡◌, length, IfOk};
 ghost use Rattle.questions.specs.Answers.{earliest};
+ghost use Rattle.questions.specs.Refusals.{answer_of};
+ghost use Rattle.sets.specs.Sets.{params_of};
 ghost use Rattle.algebra.specs.Ring.{nat};
 ghost use Rattle.packing.specs.Packing.{packed};
 ghost use Rattle.sha3.specs.Hashes.{sha3_256, shake128};
 ghost use Rattle.lwr.specs.Lwr.{rounded_vector};
 ghost use Rattle.keys.specs.Keys.{lookup_questions, public_key_of};
 ghost use Rattle.keys.specs.Promises.{Generated};
-ghost use Rattle.keys.specs.Requires.{PublicLengths, SecretLengths, KeygenScratch};
+ghost use Rattle.keys.specs.Requires.{PublicLengths, SecretLengths, KeygenScratch, Found};
 ghost use Rattle.keys.specs.Ensures.{KeyPair};
 
-use questions::ask;
-use sets::{Params, set_params};
+use questions::{Refusal, ask};
+use sets::{Params, known_params};
 
 // The public key: b, then the stored matrix seed, from which the matrix comes.
 fn public_key_into(l: usize, matrix_seed: &[u8], secret: &[u16], public_key: &mut [u8])
@@ -23,7 +25,7 @@ fn public_key_into(l: usize, matrix_seed: &[u8], secret: &[u16], public_key: &mu
         ++ shake128 matrix_seed.now 32 }
 {
     let mut stored = [0u8; 32];
-    sha3::shake128_into(matrix_seed, &mut stored);
+    sha3::shake128(matrix_seed, &mut stored);
     let e = 320 * l;
     lwr::vector_into(true, l, &stored, secret, public_key);
     byte_strings::copy_at(&stored, e, public_key);
@@ -38,7 +40,7 @@ fn secret_key_into(l: usize, secret: &[u16], public_key: &[u8], z: &[u8], secret
     let e = 416 * l;
     let h = e + public_key.len();
     let f = h + 32;
-    packing_vector::pack_vector_at(13, l, secret, 0, secret_key);
+    packing_vector::pack_at(13, secret, 0, secret_key);
     byte_strings::copy_at(public_key, e, secret_key);
     let hash = sha3::hash256(public_key);
     byte_strings::copy_at(&hash, h, secret_key);
@@ -72,22 +74,18 @@ pub fn keygen(
     z: &[u8],
     public_key: &mut [u8],
     secret_key: &mut [u8],
-) -> u8
+) -> Result<(), Refusal>
     ensures { Generated set matrix_seed.now secret_seed.now z.now public_key.old
-        secret_key.old result public_key.new secret_key.new }
+        secret_key.old (answer_of result) public_key.new secret_key.new }
 {
-    let r = scheme_questions::keygen_answer(
+    let p = scheme_questions::keygen_answer(
         set,
         matrix_seed.len(),
         secret_seed.len(),
         z.len(),
         public_key.len(),
         secret_key.len(),
-    );
-    if r != 0 {
-        return r;
-    }
-    let p = set_params(set);
+    )?;
     let mut secret = [0u16; 1024];
     let n = 256 * p.l;
     keygen_with(
@@ -95,32 +93,35 @@ pub fn keygen(
         matrix_seed,
         secret_seed,
         z,
-        &mut secret[0..n],
+        &mut secret[..n],
         public_key,
         secret_key,
     );
-    0
+    Ok(())
 }
 
-// What a lookup answers: Q1, Q5.
-pub fn lookup_answer(set: u32, secret_key: usize) -> u8
-    ensures { result ≡ earliest (lookup_questions set secret_key) }
+// What a lookup answers: Q1, Q5, else the parameters of the set.
+#[tactic(auto, using(sets::specs::Laws::Sets::is_set_lem), unfolding(questions::specs::Answers::earliest))]
+pub fn lookup_answer(set: u32, secret_key: usize) -> Result<Params, Refusal>
+    ensures answer { answer_of result ≡ earliest (lookup_questions set secret_key) }
+    ensures params { IfOk result (λ p. p ≡ params_of set) }
+    ensures found { IfOk result (λ p. Found p secret_key) }
 {
-    let p = set_params(set);
-    let is_set = 0 < p.l;
-    let is_secret_key = secret_key == p.sk;
-    ask(is_set, 1, ask(is_secret_key, 5, 0))
+    let p = known_params(set).ok_or(Refusal::UnknownSet)?;
+    ask(secret_key == p.sk, Refusal::SecretKeyLength)?;
+    Ok(p)
 }
 
 // The public key inside a secret key, as a part of it; an empty part where the set is unknown or the length is not the set's.
 pub fn public_key_of(set: u32, secret_key: &[u8]) -> &[u8]
     ensures { result.now ≡ public_key_of set secret_key.now }
 {
-    if lookup_answer(set, secret_key.len()) != 0 {
-        return &secret_key[0..0];
+    match lookup_answer(set, secret_key.len()) {
+        Ok(p) => {
+            let a = 416 * p.l;
+            let e = a + p.pk;
+            &secret_key[a..e]
+        }
+        Err(_) => &secret_key[..0],
     }
-    let p = set_params(set);
-    let a = 416 * p.l;
-    let e = a + p.pk;
-    &secret_key[a..e]
 }

@@ -1,3 +1,2 @@
 pub mod Line
-pub mod Requires
 pub mod Laws

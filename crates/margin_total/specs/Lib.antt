@@ -1,3 +1,2 @@
-pub mod Requires
 pub mod Ensures
 pub mod Laws

@@ -1,24 +1,36 @@
 // Products of vectors and matrices. A matrix is packed, and each of its polynomials is unpacked when it is multiplied.
 #![tactic(auto)]
 
-ghost use Rattle.std.specs.Prelude.{cond, ◌≡◌, ℕ, ◌+◌, ◌*◌, ◌≤◌, length};
+ghost use Rattle.std.specs.Prelude.{cond, not, ◌≡◌, ℕ, ◌+◌, ◌*◌, length};
 ghost use Rattle.algebra.specs.Ring.{nat, poly, blocks};
 ghost use Rattle.packing.specs.Packing.{unpacked};
-ghost use Rattle.algebra.specs.Vectors.{inner_mod, matrix_row, matrix_vector, side};
-ghost use Rattle.matrix.specs.Requires.{CutLengths, SumsScratch, WordsScratch, InnerScratch, RowsScratch, ProductScratch};
-ghost use Rattle.matrix.specs.Ensures.{sums};
+ghost use Rattle.algebra.specs.Vectors.{inner_mod, matrix_row, matrix_vector};
+ghost use Rattle.matrix.specs.Requires.{CutLengths, WordsScratch, InnerScratch, RowsLengths, ProductLengths};
 
 use karatsuba::rows_add;
 use ring::reduce;
 
+// How many rows are multiplied at once, at most.
+pub const AT_ONCE: usize = 3;
+
 // The scratch of an inner product, one row at a time.
 pub const ONE_ROW_WORK: usize = karatsuba::ONE_ROW_WORK;
 
-// The scratch for three rows at a time.
-pub const THREE_ROWS_WORK: usize = karatsuba::THREE_ROWS_WORK;
+// The buffers of products: room for four polynomials, up to three of which are multiplied at once, and the scratch for three rows.
+#[derive(Drop)]
+pub struct Scratch {
+    pub cut: [u16; 1024],
+    pub work: [u16; karatsuba::THREE_ROWS_WORK],
+}
 
-// The buffer for the three polynomials that are then multiplied at once.
-pub const THREE_ROWS: usize = 3 * 256;
+impl Scratch {
+    pub fn new() -> Scratch {
+        Scratch {
+            cut: [0; 1024],
+            work: [0; karatsuba::THREE_ROWS_WORK],
+        }
+    }
+}
 
 // For each i below `rows` the polynomial at place `start` + `step` i among packed ones.
 fn cut_into(width: u32, bytes: &[u8], start: usize, step: usize, rows: usize, out: &mut [u16])
@@ -26,46 +38,52 @@ fn cut_into(width: u32, bytes: &[u8], start: usize, step: usize, rows: usize, ou
     ensures { out.new ≡ blocks rows (λ (i : ℕ). poly (unpacked width bytes.now) (start + step * i)) }
 {
     let size = 32 * (width as usize);
-    let mut i = 0;
-    while i < rows {
+    for i in 0..rows {
         let a = size * (start + step * i);
         let b = a + size;
         let p = 256 * i;
         let e = p + 256;
         packing::unpack_into(width, &bytes[a..b], &mut out[p..e]);
-        i += 1;
     }
 }
 
-// For each i below `rows` the sum of l products, modulo 65536: of the packed polynomials that stand `column` places apart from place
-// `start` + `row` i on, and those of s. The caller lends zeros, to which each turn adds one product a row, a buffer for the polynomials that are
-// multiplied at once, and scratch.
-fn sums_into(
+// Packed polynomials by rows and columns: from place `start` on, a row is `row` places behind the one above it, and a column `column` places behind
+// the one before it.
+#[derive(Clone, Copy)]
+struct Grid<'a> {
     width: u32,
-    rows: usize,
-    l: usize,
-    bytes: &[u8],
+    packed: &'a [u8],
     start: usize,
     row: usize,
     column: usize,
-    s: &[u16],
-    cut: &mut [u16],
-    work: &mut [u16],
-    out: &mut [u16],
-)
-    requires { SumsScratch width rows l (length bytes.now) start row column (length s.now) (length cut.old) (length work.old)
-        out.old }
-    ensures { out.new
-        ≡ sums 65536 rows l (λ (i : ℕ). λ (j : ℕ). poly (unpacked width bytes.now) (start + column * j + row * i))
-        s.now }
-{
-    let mut j = 0;
-    while j < l {
-        let p = 256 * j;
-        let e = p + 256;
-        cut_into(width, bytes, start + column * j, row, rows, cut);
-        rows_add(rows, cut, &s[p..e], work, out);
-        j += 1;
+}
+
+impl Grid<'_> {
+    ghost use Rattle.matrix.specs.Ensures.{polynomial, sums};
+    ghost use Rattle.matrix.specs.Requires.{SumsLengths};
+
+    // For each of the first `rows` rows the sum of the products of its l polynomials and those of s, modulo 65536: zeros, to which each turn adds
+    // one product a row.
+    fn sums_into(&self, rows: usize, l: usize, s: &[u16], scratch: &mut Scratch, out: &mut [u16])
+        requires { SumsLengths self.now rows l (length s.now) (length out.old) }
+        ensures { out.new ≡ sums 65536 rows l (polynomial self.now) s.now }
+    {
+        out.fill(0);
+        let n = 256 * rows;
+        for j in 0..l {
+            let p = 256 * j;
+            let e = p + 256;
+            let start = self.start + self.column * j;
+            cut_into(
+                self.width,
+                self.packed,
+                start,
+                self.row,
+                rows,
+                &mut scratch.cut[..n],
+            );
+            rows_add(rows, &scratch.cut[..n], &s[p..e], &mut scratch.work, out);
+        }
     }
 }
 
@@ -76,12 +94,10 @@ pub fn inner_words(l: usize, a: &[u16], s: &[u16], work: &mut [u16]) -> [u16; 25
     ensures { result ≡ inner_mod 65536 l a.now (nat s.now) }
 {
     let mut acc = [0u16; 256];
-    let mut j = 0;
-    while j < l {
+    for j in 0..l {
         let p = 256 * j;
         let e = p + 256;
         rows_add(1, &a[p..e], &s[p..e], work, &mut acc);
-        j += 1;
     }
     acc
 }
@@ -98,87 +114,64 @@ pub fn inner(l: usize, vector: &[u8], s: &[u16], words: &mut [u16], work: &mut [
     acc
 }
 
-// How many places a step in a flat matrix is: l from a row to the next, 1 from a column to the next.
-fn stride(by_rows: bool, l: usize) -> usize
-    ensures { result ≡ cond by_rows l 1 }
-{
-    if by_rows { l } else { 1 }
+// A matrix of l rows and l columns, packed in 13 bits a coefficient, its rows one after another; or the transposed one, whose rows are its columns.
+#[derive(Clone, Copy)]
+pub struct Matrix<'a> {
+    pub packed: &'a [u8],
+    pub l: usize,
+    pub transposed: bool,
+    ghost whole: { length packed.now ≡ 416 * (l * l) },
 }
 
-// The product of a matrix of l rows and l columns, packed in 13 bits a coefficient, or of the transposed one, and s, modulo 8192: `rows` rows of
-// it from row `first` on. The matrix has its rows one after another; the rows of the transposed one are its columns. The caller lends zeros for the
-// product.
-pub fn rows_into(
-    transposed: bool,
-    l: usize,
-    matrix: &[u8],
-    s: &[u16],
-    first: usize,
-    rows: usize,
-    cut: &mut [u16],
-    work: &mut [u16],
-    out: &mut [u16],
-)
-    requires { RowsScratch l (length matrix.now) (length s.now) first rows (length cut.old) (length work.old) out.old }
-    ensures { out.new
-        ≡ blocks rows (λ (k : ℕ). matrix_row l (side transposed l (unpacked 13 matrix.now)) (nat s.now) (first + k)) }
-{
-    let row = stride(!transposed, l);
-    let column = stride(transposed, l);
-    sums_into(
-        13,
-        rows,
-        l,
-        matrix,
-        row * first,
-        row,
-        column,
-        s,
-        cut,
-        work,
-        out,
-    );
-    reduce(8192, out);
-}
+impl Matrix<'_> {
+    ghost use Rattle.matrix.specs.Ensures.{entries};
 
-// How many of the rows that are left to multiply at once.
-pub fn some_rows(left: usize) -> usize
-    requires { 1 ≤ left }
-    ensures { (1 ≤ result) × (result ≤ 3) × (result ≤ left) }
-{
-    if left < 3 { left } else { 3 }
-}
+    // How many places a row is behind the one above it, and a column behind the one before it.
+    fn strides(&self) -> (usize, usize)
+        ensures row { result.0 ≡ cond (not self.now.transposed) self.now.l 1 }
+        ensures column { result.1 ≡ cond self.now.transposed self.now.l 1 }
+    {
+        if self.transposed {
+            (1, self.l)
+        } else {
+            (self.l, 1)
+        }
+    }
 
-// All rows of the product of a packed matrix, or of the transposed one, and s, up to three at a time. The caller lends zeros for them.
-pub fn product_into(
-    transposed: bool,
-    l: usize,
-    matrix: &[u8],
-    s: &[u16],
-    cut: &mut [u16],
-    work: &mut [u16],
-    out: &mut [u16],
-)
-    requires { ProductScratch l (length matrix.now) (length s.now) (length cut.old) (length work.old) out.old }
-    ensures { out.new ≡ matrix_vector l (side transposed l (unpacked 13 matrix.now)) (nat s.now) }
-{
-    let mut i = 0;
-    while i < l {
-        let n = some_rows(l - i);
-        let c = 256 * n;
-        let p = 256 * i;
-        let e = p + c;
-        rows_into(
-            transposed,
-            l,
-            matrix,
-            s,
-            i,
-            n,
-            &mut cut[0..c],
-            work,
-            &mut out[p..e],
-        );
-        i += n;
+    // The product of the matrix and s, modulo 8192: `rows` rows of it from row `first` on.
+    pub fn rows_into(
+        &self,
+        s: &[u16],
+        first: usize,
+        rows: usize,
+        scratch: &mut Scratch,
+        out: &mut [u16],
+    )
+        requires { RowsLengths self.now.l (length s.now) first rows (length out.old) }
+        ensures { out.new
+            ≡ blocks rows (λ (k : ℕ). matrix_row self.now.l (entries self.now) (nat s.now) (first + k)) }
+    {
+        let (row, column) = self.strides();
+        let grid = Grid {
+            width: 13,
+            packed: self.packed,
+            start: row * first,
+            row,
+            column,
+        };
+        grid.sums_into(rows, self.l, s, scratch, out);
+        reduce(8192, out);
+    }
+
+    // All rows of the product, up to three at a time.
+    pub fn product_into(&self, s: &[u16], scratch: &mut Scratch, out: &mut [u16])
+        requires { ProductLengths self.now.l (length s.now) (length out.old) }
+        ensures { out.new ≡ matrix_vector self.now.l (entries self.now) (nat s.now) }
+    {
+        for first in (0..self.l).step_by(AT_ONCE) {
+            let rows = (self.l - first).min(AT_ONCE);
+            let end = first + rows;
+            self.rows_into(s, first, rows, scratch, &mut out[256 * first..256 * end]);
+        }
     }
 }

@@ -1,4 +1,3 @@
 pub mod Packing
 pub mod Cutting
-pub mod Lengths
 pub mod Polynomials

@@ -3,6 +3,7 @@
 
 ghost use Rattle.std.specs.Prelude.{◌≡◌, length};
 ghost use Rattle.lists.specs.Strings.{placed};
+ghost use Rattle.questions.specs.Refusals.{answer_of};
 ghost use Rattle.sets.specs.Sets.{added};
 ghost use Rattle.packing.specs.Packing.{packed, unpacked};
 ghost use Rattle.reconciliation.specs.Reconciliation.{masked_poly, recon_data, recovered};
@@ -10,7 +11,8 @@ ghost use Rattle.pke.specs.Pke.{encrypted, decrypted};
 ghost use Rattle.pke.specs.Promises.{Encrypted, Decrypted};
 ghost use Rattle.pke.specs.Requires.{DataLengths, MessageLengths, EncryptScratch, DecryptScratch};
 
-use sets::{Params, set_params};
+use questions::Refusal;
+use sets::Params;
 
 // The reconciliation data of a message, from v', at a place of the ciphertext. One array holds the message's bits and then the data.
 fn data_at(p: Params, v: &[u16; 256], message: &[u8], place: usize, ciphertext: &mut [u8])
@@ -90,44 +92,41 @@ pub fn encrypt(
     message: &[u8],
     seed: &[u8],
     ciphertext: &mut [u8],
-) -> u8
+) -> Result<(), Refusal>
     ensures { Encrypted set public_key.now message.now seed.now ciphertext.old
-        result ciphertext.new }
+        (answer_of result) ciphertext.new }
 {
-    let r = scheme_questions::encrypt_answer(
+    let p = scheme_questions::encrypt_answer(
         set,
         public_key.len(),
         message.len(),
         seed.len(),
         ciphertext.len(),
-    );
-    if r != 0 {
-        return r;
-    }
-    let p = set_params(set);
+    )?;
     let mut secret = [0u16; 1024];
     let n = 256 * p.l;
-    encrypt_with(p, public_key, message, seed, &mut secret[0..n], ciphertext);
-    0
+    encrypt_with(p, public_key, message, seed, &mut secret[..n], ciphertext);
+    Ok(())
 }
 
 // Decryption: Q1, Q5, Q6, Q9.
-pub fn decrypt(set: u32, plain_secret: &[u8], ciphertext: &[u8], message: &mut [u8]) -> u8
+pub fn decrypt(
+    set: u32,
+    plain_secret: &[u8],
+    ciphertext: &[u8],
+    message: &mut [u8],
+) -> Result<(), Refusal>
     ensures { Decrypted set plain_secret.now ciphertext.now message.old
-        result message.new }
+        (answer_of result) message.new }
 {
-    let r = scheme_questions::decrypt_answer(
+    let p = scheme_questions::decrypt_answer(
         set,
         plain_secret.len(),
         ciphertext.len(),
         message.len(),
-    );
-    if r != 0 {
-        return r;
-    }
-    let p = set_params(set);
+    )?;
     let mut secret = [0u16; 1024];
     let n = 256 * p.l;
-    decrypt_with(p, plain_secret, ciphertext, &mut secret[0..n], message);
-    0
+    decrypt_with(p, plain_secret, ciphertext, &mut secret[..n], message);
+    Ok(())
 }

@@ -1,2 +1,1 @@
 pub mod Reconciliation
-pub mod Lengths

@@ -1,11 +1,7 @@
--- The record of A1, as it was before A7. Of today's definitions it takes the types of an entry and the way questions are asked, and nothing
+-- The record of A1, as it was before A7. Of today's definitions it takes the head of an entry and the way questions are asked, and nothing
 -- else, so that no later request changes it. `Laws/Before` says that old records read as before.
-use Rattle.std.specs.Prelude.{ℕ, zero, suc, ◌+◌, ◌*◌, ◌/◌, ◌%◌, ◌^◌, Bool, true, cond, ◌&&◌, List, [], ◌∷◌, ◌++◌, eqb, ltb, leb, length, get_or, take, drop}
+use Rattle.std.specs.Prelude.{ℕ, zero, suc, ◌+◌, ◌*◌, ◌/◌, ◌%◌, ◌^◌, Bool, true, cond, ◌&&◌, Option, None, Some, List, [], ◌∷◌, ◌++◌, eqb, ltb, leb, length, get_or, take, drop}
 use Rattle.questions.specs.Answers.{Question, earliest}
-use Rattle.record_format.specs.declared.Door.{Door}
-use Rattle.record_format.specs.declared.Door.TheVariants as door
-use Rattle.record_format.specs.declared.Time.{Time}
-use Rattle.record_format.specs.declared.Time.TheVariants as time
 use Rattle.record_format.specs.declared.Head.{Head}
 
 -- "Byte 0 is a bit map": in an empty record it is 0. Bit k is 0 or 1, and 1 where it stands
@@ -38,16 +34,16 @@ bytes zero x = []
 bytes (suc n) x = x % 256 ∷ bytes n (x / 256)
 
 -- "Bit 0: door number, 2 bytes": the door in a record, and which doors there are
-abbrev pub door_in : List ℕ → Door
-door_in s = cond (stands (map_in s) 0) (door.Number (number (take 2 (drop 1 s)))) door.Missing
+abbrev pub door_in : List ℕ → Option ℕ
+door_in s = cond (stands (map_in s) 0) (Some (number (take 2 (drop 1 s)))) None
 
-abbrev pub is_door : Door → Bool
-is_door door.Missing = true
-is_door (door.Number x) = ltb x 65536
+abbrev pub is_door : Option ℕ → Bool
+is_door None = true
+is_door (Some x) = ltb x 65536
 
 -- "Bit 1: time, 8 bytes, any value": the time in a record
-abbrev pub time_in : List ℕ → Time
-time_in s = cond (stands (map_in s) 1) (time.Number (number (take 8 (drop (time_at (map_in s)) s)))) time.Missing
+abbrev pub time_in : List ℕ → Option ℕ
+time_in s = cond (stands (map_in s) 1) (Some (number (take 8 (drop (time_at (map_in s)) s)))) None
 
 -- "Bit 2: set, 1 byte, 1 to 3": the set in a record, and which sets there are
 abbrev pub set_in : List ℕ → ℕ
@@ -64,13 +60,13 @@ abbrev pub ciphertext_length : ℕ → ℕ
 ciphertext_length set = cond (eqb set 1) 736 (cond (eqb set 2) 1088 1472)
 
 -- "Door and time may be missing, set and capsule may not": the bit and the bytes of a door and of a time; a missing one has neither
-abbrev pub door_part : Door → ℕ × List ℕ
-door_part door.Missing = (0, [])
-door_part (door.Number x) = (1, bytes 2 x)
+abbrev pub door_part : Option ℕ → ℕ × List ℕ
+door_part None = (0, [])
+door_part (Some x) = (1, bytes 2 x)
 
-abbrev pub time_part : Time → ℕ × List ℕ
-time_part time.Missing = (0, [])
-time_part (time.Number x) = (2, bytes 8 x)
+abbrev pub time_part : Option ℕ → ℕ × List ℕ
+time_part None = (0, [])
+time_part (Some x) = (2, bytes 8 x)
 
 -- "a writer": the record of an entry. 4 and 8 are the bits of the set and the ciphertext
 unfoldable pub record_of : Head → List ℕ → List ℕ

@@ -1,18 +1,12 @@
 -- Document 02, A1 and A7: the record of a sealed entry. Byte 0 is a bit map, and only the fields whose bit stands follow, in bit order,
 -- little-endian; a wide door, bit 4, stands where the short one would.
-use Rattle.std.specs.Prelude.{ℕ, ◌+◌, ◌*◌, ◌^◌, ◌<◌, Bool, true, false, not, ◌&&◌, List, [], ◌∷◌, ◌++◌, ◌≡◌, eqb, ltb, leb, length, get_or, take, drop}
-use Rattle.std.proofs.Math.Option
-use Rattle.std.proofs.Math.Option.{Option, none, some, or_else}
+use Rattle.std.specs.Prelude.{ℕ, ◌+◌, ◌*◌, ◌^◌, ◌<◌, Bool, not, ◌&&◌, Option, None, Some, unwrap_or, List, [], ◌∷◌, ◌++◌, ◌≡◌, eqb, ltb, leb, length, get_or, take, drop}
+use Rattle.std.specs.Bool.{then_some}
+use Rattle.std.specs.Option.{option_or}
 use Rattle.lists.specs.Numbers.{number, digits, digit}
 use Rattle.questions.specs.Answers.{Question, earliest}
 use Rattle.sets.specs.Sets.{params_of, known}
-use Rattle.record_format.specs.declared.Door.{Door}
-use Rattle.record_format.specs.declared.Door.TheVariants as door
-use Rattle.record_format.specs.declared.Time.{Time}
-use Rattle.record_format.specs.declared.Time.TheVariants as time
 use Rattle.record_format.specs.declared.Head.{Head}
-use Rattle.record_format.specs.declared.Read.{Read}
-use Rattle.record_format.specs.declared.Read.TheVariants.{Entry, Refused}
 
 -- The fields
 
@@ -40,21 +34,7 @@ taken_by m (f ∷ fs) = taken m f + taken_by m fs
 abbrev pub head_length : ℕ → ℕ
 head_length m = 1 + taken_by m fields
 
--- a number that is there or is not
-abbrev pub given : Bool → ℕ → Option ℕ
-given true x = some x
-given false x = none
-
 -- Writing
-
--- the numbers of an entry; a door or a time may be missing, a set may not
-abbrev pub door_number : Door → Option ℕ
-door_number door.Missing = none
-door_number (door.Number x) = some x
-
-abbrev pub time_number : Time → Option ℕ
-time_number time.Missing = none
-time_number (time.Number x) = some x
 
 -- A7: "A door up to 65535 is still written short". Doors from here on are wide
 abbrev pub wide_from : ℕ
@@ -62,25 +42,25 @@ wide_from = 65536
 
 -- a door's number in the short field, and in the wide one
 abbrev pub short_door : Option ℕ → Option ℕ
-short_door none = none
-short_door (some x) = given (ltb x wide_from) x
+short_door None = None
+short_door (Some x) = then_some (ltb x wide_from) x
 
 abbrev pub wide_door : Option ℕ → Option ℕ
-wide_door none = none
-wide_door (some x) = given (leb wide_from x) x
+wide_door None = None
+wide_door (Some x) = then_some (leb wide_from x) x
 
--- all numbers, in the order of the fields
+-- all numbers, in the order of the fields; a door or a time may be missing, a set may not
 abbrev pub numbers_of : Head → List (Option ℕ)
-numbers_of h = short_door (door_number h.door) ∷ wide_door (door_number h.door) ∷ time_number h.time ∷ some h.set ∷ []
+numbers_of h = short_door h.door ∷ wide_door h.door ∷ h.time ∷ Some h.set ∷ []
 
 -- the bit of a number that is there, and its bytes, lowest first; a missing one has neither
 abbrev pub bit_of : Field → Option ℕ → ℕ
-bit_of f none = 0
-bit_of f (some x) = 2 ^ f.0
+bit_of f None = 0
+bit_of f (Some x) = 2 ^ f.0
 
 abbrev pub bytes_of : Field → Option ℕ → List ℕ
-bytes_of f none = []
-bytes_of f (some x) = digits 256 f.1 x
+bytes_of f None = []
+bytes_of f (Some x) = digits 256 f.1 x
 
 -- all bits together, and all bytes one behind the other
 unfoldable pub bits_of : List Field → List (Option ℕ) → ℕ
@@ -102,7 +82,7 @@ unfoldable pub record_of : Head → List ℕ → List ℕ
 record_of h ciphertext = map_of h ∷ laid fields (numbers_of h) ++ ciphertext
 
 -- the head of an entry to be written: it has the set that its number means
-abbrev pub headed : Door → Time → ℕ → Head
+abbrev pub headed : Option ℕ → Option ℕ → ℕ → Head
 headed door time set = record { door = door; time = time; set = (params_of set).number }
 
 -- the questions of a writer, Q1, Q6 and Q9, by how many bytes come before the ciphertext, its set number and lengths
@@ -119,23 +99,15 @@ map_in s = get_or s 0 0
 -- the numbers that stand one behind the other in a string, each where its bit stands
 unfoldable pub numbers_in : ℕ → List Field → List ℕ → List (Option ℕ)
 numbers_in m [] s = []
-numbers_in m (f ∷ fs) s = given (stands m f.0) (number 256 (take f.1 s)) ∷ numbers_in m fs (drop (taken m f) s)
+numbers_in m (f ∷ fs) s = then_some (stands m f.0) (number 256 (take f.1 s)) ∷ numbers_in m fs (drop (taken m f) s)
 
 -- the head whose numbers these are
-abbrev pub door_of : Option ℕ → Door
-door_of none = door.Missing
-door_of (some x) = door.Number x
-
-abbrev pub time_of : Option ℕ → Time
-time_of none = time.Missing
-time_of (some x) = time.Number x
-
 abbrev pub head_of : List (Option ℕ) → Head
 head_of xs =
     record {
-      door = door_of (or_else (get_or xs 0 none) (get_or xs 1 none));
-      time = time_of (get_or xs 2 none);
-      set = Option.get_or (get_or xs 3 none) 0;
+      door = option_or (get_or xs 0 None) (get_or xs 1 None);
+      time = get_or xs 2 None;
+      set = unwrap_or (get_or xs 3 None) 0;
     }
 
 -- the head of the entry in a record, and its ciphertext
@@ -162,31 +134,16 @@ read_questions m door set size ct =
     ∷ (not (stands m 4 && ltb door wide_from), 12)
     ∷ (eqb ct (params_of set).ct, 9) ∷ []
 
--- the number of a door, 0 where it is missing
-abbrev pub door_or_zero : Door → ℕ
-door_or_zero d = Option.get_or (door_number d) 0
-
 -- the answer to a read of the record s, where an output of ct bytes is lent
 abbrev pub read_answer : List ℕ → ℕ → ℕ
-read_answer s ct = earliest (read_questions (map_in s) (door_or_zero (head_in s).door) (head_in s).set (length s) ct)
-
--- Document 01: "If an answer is an enum, a definition states this paper's number and values for each of its cases". The number of what a read
--- gives: 0 for an entry, its own for a refusal
-abbrev pub answer_of : Read → ℕ
-answer_of (Entry h) = 0
-answer_of (Refused n) = n
-
--- and its values: the head of an entry, and none for a refusal
-abbrev pub values_of : Read → Option Head
-values_of (Entry h) = some h
-values_of (Refused n) = none
+read_answer s ct = earliest (read_questions (map_in s) (unwrap_or (head_in s).door 0) (head_in s).set (length s) ct)
 
 -- One encoding for each entry
 
 -- a number that may be missing fits a field of n bytes
 abbrev pub Fits : ℕ → Option ℕ → Type 0
-Fits n none = Unit {0}
-Fits n (some x) = x < 256 ^ n
+Fits n None = Unit {0}
+Fits n (Some x) = x < 256 ^ n
 
 -- the record s holds the entry of a head and a ciphertext: who lends an output of the ciphertext's length is given these
 pub record Holds (s : List ℕ) (h : Head) (ciphertext : List ℕ) : Type 0 where

@@ -1,6 +1,5 @@
 -- What the inner functions ensure.
-use Rattle.std.specs.Prelude.{ℕ, ◌≤◌, List, ◌≡◌}
-use Rattle.std.proofs.Math.Option.{Option}
+use Rattle.std.specs.Prelude.{ℕ, ◌≤◌, Option, List, ◌≡◌}
 use Rattle.lists.specs.Numbers.{digits}
 use Rattle.record_format.specs.Records.{Field, bits_of, laid}
 use Rattle.record_writer.specs.declared.Part.{Part}

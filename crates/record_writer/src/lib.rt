@@ -3,17 +3,16 @@
 
 ghost use Rattle.std.specs.Prelude.{[], ◌∷◌, ◌++◌, ◌≡◌, ◌≤◌, length};
 ghost use Rattle.lists.specs.Numbers.{digits};
-ghost use Rattle.questions.specs.Answers.{earliest};
-ghost use Rattle.record_format.specs.Records.{door_number, time_number, short_door, wide_door, write_questions};
+ghost use Rattle.questions.specs.Refusals.{answer_of};
+ghost use Rattle.record_format.specs.Records.{short_door, wide_door};
 ghost use Rattle.record_format.specs.Promises.{Recorded};
 ghost use Rattle.record_writer.specs.Requires.{WriteLengths};
 ghost use Rattle.record_writer.specs.Ensures.{Lays};
 
-use questions::ask;
-use record_format::{Door, Time};
-use sets::set_params;
+use questions::{Refusal, ask};
+use sets::known_params;
 
-// A number as it is written: its bit of the map, its bytes and itself. A missing one has no bit and no bytes.
+// A number as it is written: its bit of the map, its bytes and itself.
 #[derive(Clone, Copy)]
 struct Part {
     bit: u8,
@@ -21,56 +20,32 @@ struct Part {
     number: u64,
 }
 
+// How a number is written in the field with this bit and this size. A missing one has no bit and no bytes.
+fn number_part(number: Option<u64>, bit: u32, size: usize) -> Part
+    requires { (bit ≤ 4) × (size ≤ 8) }
+    ensures { Lays ((bit, size) ∷ []) (number ∷ []) result }
+{
+    match number {
+        Some(number) => Part {
+            bit: 1 << bit,
+            size,
+            number,
+        },
+        None => Part {
+            bit: 0,
+            size: 0,
+            number: 0,
+        },
+    }
+}
+
 // How a door is written, short up to 65535 and wide above: `wide` is 0 or 1 and follows from the upper half, so that no jump depends on the
 // lower one.
-fn door_part(door: Door) -> Part
-    ensures { Lays ((0, 2) ∷ (4, 4) ∷ []) (short_door (door_number door) ∷ wide_door (door_number door) ∷ []) result }
+fn door_part(door: Option<u32>) -> Part
+    ensures { Lays ((0, 2) ∷ (4, 4) ∷ []) (short_door door ∷ wide_door door ∷ []) result }
 {
-    match door {
-        Door::Missing => Part {
-            bit: 0,
-            size: 0,
-            number: 0,
-        },
-        Door::Number(x) => {
-            let wide = (x / 65536 + 65535) / 65536;
-            Part {
-                bit: (1 + 15 * wide) as u8,
-                size: (2 + 2 * wide) as usize,
-                number: x as u64,
-            }
-        }
-    }
-}
-
-// How a time is written.
-fn time_part(time: Time) -> Part
-    ensures { Lays ((1, 8) ∷ []) (time_number time ∷ []) result }
-{
-    match time {
-        Time::Missing => Part {
-            bit: 0,
-            size: 0,
-            number: 0,
-        },
-        Time::Number(x) => Part {
-            bit: 2,
-            size: 8,
-            number: x,
-        },
-    }
-}
-
-// What writing answers, where `head` bytes come before the ciphertext: Q1, Q6, Q9.
-fn write_answer(head: usize, set: u32, ciphertext: usize, record: usize) -> u8
-    requires { head ≤ 18 }
-    ensures { result ≡ earliest (write_questions head set ciphertext «record») }
-{
-    let p = set_params(set);
-    let size = head + p.ct;
-    let is_set = 0 < p.l;
-    let is_ciphertext = ciphertext == p.ct;
-    ask(is_set, 1, ask(is_ciphertext, 6, ask(record == size, 9, 0)))
+    let wide = (door.unwrap_or(0) / 65536 + 65535) / 65536;
+    number_part(door.map(u64::from), 4 * wide, (2 + 2 * wide) as usize)
 }
 
 // Writes the map, the numbers and the ciphertext, one behind the other.
@@ -89,18 +64,23 @@ fn write_into(map: u8, door: Part, time: Part, set: u32, ciphertext: &[u8], reco
 }
 
 // Writes the record of an entry: Q1, Q6, Q9. The map and the set have a byte each.
-pub fn write_record(door: Door, time: Time, set: u32, ciphertext: &[u8], record: &mut [u8]) -> u8
-    ensures { Recorded door time set ciphertext.now «record».old result «record».new }
+#[tactic(auto, using(crate::specs::Laws::Calls::head_is, crate::specs::Laws::Calls::record_is), unfolding(questions::specs::Answers::earliest))]
+pub fn write_record(
+    door: Option<u32>,
+    time: Option<u64>,
+    set: u32,
+    ciphertext: &[u8],
+    record: &mut [u8],
+) -> Result<(), Refusal>
+    ensures { Recorded door time set ciphertext.now «record».old (answer_of result) «record».new }
 {
     let d = door_part(door);
-    let t = time_part(time);
+    let t = number_part(time, 1, 8);
     let map = d.bit + t.bit + 12;
     let head = 2 + d.size + t.size;
-    let r = write_answer(head, set, ciphertext.len(), record.len());
-    if r != 0 {
-        return r;
-    }
-    let p = set_params(set);
+    let p = known_params(set).ok_or(Refusal::UnknownSet)?;
+    ask(ciphertext.len() == p.ct, Refusal::CiphertextLength)?;
+    ask(record.len() == head + p.ct, Refusal::OutputLength)?;
     write_into(map, d, t, p.number, ciphertext, record);
-    0
+    Ok(())
 }

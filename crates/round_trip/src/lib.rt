@@ -3,20 +3,13 @@
 
 ghost use Rattle.std.specs.Prelude.{◌≡◌, ◌*◌, take};
 ghost use Rattle.questions.specs.Answers.{earliest};
+ghost use Rattle.questions.specs.Refusals.{answer_of};
 ghost use Rattle.sets.specs.Sets.{params_of};
 ghost use Rattle.correctness.specs.Promises.{refusals, RoundTrip};
 
 use correctness::SetNumbers;
-use questions::ask;
+use questions::Refusal;
 use sets::set_params;
-
-// The earliest of four answers that is a refusal, or 0.
-fn refusal(r1: u8, r2: u8, r3: u8, r4: u8) -> u8
-    ensures { result ≡ earliest (refusals r1 r2 r3 r4) }
-{
-    let last = ask(r4 == 0, r4, 0);
-    ask(r1 == 0, r1, ask(r2 == 0, r2, ask(r3 == 0, r3, last)))
-}
 
 // The first 416 l bytes of a secret key, or all of a shorter one.
 fn plain_secret_of(set: u32, secret_key: &[u8]) -> &[u8]
@@ -44,10 +37,10 @@ pub fn round_trip(
     shared_secret: &mut [u8],
     message: &mut [u8],
     decaps_secret: &mut [u8],
-) -> u8
+) -> Result<(), Refusal>
     ensures { RoundTrip sets matrix_seed.now secret_seed.now z.now seed.now
         public_key.old secret_key.old ciphertext.old shared_secret.old
-        message.old decaps_secret.old result
+        message.old decaps_secret.old (answer_of result)
         public_key.new secret_key.new ciphertext.new shared_secret.new
         message.new decaps_secret.new }
 {
@@ -67,5 +60,5 @@ pub fn round_trip(
         message,
     );
     let r4 = kem::decaps(sets.decaps, secret_key, ciphertext, decaps_secret);
-    refusal(r1, r2, r3, r4)
+    r1.and(r2).and(r3).and(r4)
 }

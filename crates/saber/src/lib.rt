@@ -1,4 +1,5 @@
-// The calls for programs in C and Rust, each with its own promise. A slice is passed as a pointer and then a count of elements.
+// The calls for programs in C and Rust, each with its own promise: they answer by a number, 0 or that of the refusal. A slice is passed as a
+// pointer and then a count of elements.
 #![tactic(auto)]
 
 ghost use Rattle.std.specs.Prelude.{◌≡◌};
@@ -12,11 +13,12 @@ ghost use Rattle.reconciliation.specs.Promises.{ReconData, Recovered};
 ghost use Rattle.pke.specs.Promises.{Encrypted, Decrypted};
 ghost use Rattle.keys.specs.Promises.{Generated};
 ghost use Rattle.kem.specs.Promises.{Encapsulated, Decapsulated};
-ghost use Rattle.record_format.specs.Records.{door_of, time_of};
 ghost use Rattle.record_format.specs.Promises.{Recorded};
 ghost use Rattle.saber_numbers.specs.Lookup.{key_offset, key_length};
 ghost use Rattle.saber_numbers.specs.Numbers.{flagged};
 ghost use Rattle.saber_numbers.specs.Promises.{ReadInto};
+
+use questions::answer;
 
 // Making keys: Q1, Q3, Q9.
 #[unsafe(no_mangle)]
@@ -31,7 +33,7 @@ pub extern "C" fn saber_keygen(
     ensures { Generated set matrix_seed.now secret_seed.now z.now public_key.old
         secret_key.old result public_key.new secret_key.new }
 {
-    keys::keygen(set, matrix_seed, secret_seed, z, public_key, secret_key)
+    answer(keys::keygen(set, matrix_seed, secret_seed, z, public_key, secret_key))
 }
 
 // Encapsulation, "sealing": Q1, Q3, Q4, Q9.
@@ -46,7 +48,7 @@ pub extern "C" fn saber_encaps(
     ensures { Encapsulated set public_key.now seed.now ciphertext.old
         shared_secret.old result ciphertext.new shared_secret.new }
 {
-    kem::encaps(set, public_key, seed, ciphertext, shared_secret)
+    answer(kem::encaps(set, public_key, seed, ciphertext, shared_secret))
 }
 
 // Decapsulation, "unsealing": Q1, Q5, Q6, Q9.
@@ -60,7 +62,7 @@ pub extern "C" fn saber_decaps(
     ensures { Decapsulated set secret_key.now ciphertext.now shared_secret.old
         result shared_secret.new }
 {
-    kem::decaps(set, secret_key, ciphertext, shared_secret)
+    answer(kem::decaps(set, secret_key, ciphertext, shared_secret))
 }
 
 // Encryption: Q1, Q3, Q4, Q9.
@@ -75,7 +77,7 @@ pub extern "C" fn saber_encrypt(
     ensures { Encrypted set public_key.now message.now seed.now ciphertext.old
         result ciphertext.new }
 {
-    pke::encrypt(set, public_key, message, seed, ciphertext)
+    answer(pke::encrypt(set, public_key, message, seed, ciphertext))
 }
 
 // Decryption: Q1, Q5, Q6, Q9.
@@ -89,7 +91,7 @@ pub extern "C" fn saber_decrypt(
     ensures { Decrypted set plain_secret.now ciphertext.now message.old
         result message.new }
 {
-    pke::decrypt(set, plain_secret, ciphertext, message)
+    answer(pke::decrypt(set, plain_secret, ciphertext, message))
 }
 
 // The matrix from its seed: Q1, Q3, Q9.
@@ -97,7 +99,7 @@ pub extern "C" fn saber_decrypt(
 pub extern "C" fn saber_gen_matrix(set: u32, seed: &[u8], matrix: &mut [u16]) -> u8
     ensures { GenMatrix set seed.now matrix.old result matrix.new }
 {
-    sampling::gen_matrix(set, seed, matrix)
+    answer(sampling::gen_matrix(set, seed, matrix))
 }
 
 // The secret from its seed, signed: Q1, Q3, Q9.
@@ -105,7 +107,7 @@ pub extern "C" fn saber_gen_matrix(set: u32, seed: &[u8], matrix: &mut [u16]) ->
 pub extern "C" fn saber_gen_secret(set: u32, seed: &[u8], secret: &mut [i8]) -> u8
     ensures { GenSecret set seed.now secret.old result secret.new }
 {
-    sampling::gen_secret(set, seed, secret)
+    answer(sampling::gen_secret(set, seed, secret))
 }
 
 // The ring product: Q2, Q7, Q8, Q9.
@@ -113,7 +115,7 @@ pub extern "C" fn saber_gen_secret(set: u32, seed: &[u8], secret: &mut [i8]) -> 
 pub extern "C" fn saber_poly_mul(modulus: u32, a: &[u16], b: &[u16], product: &mut [u16]) -> u8
     ensures { Multiplied modulus a.now b.now product.old result product.new }
 {
-    ring::poly_mul(modulus, a, b, product)
+    answer(ring::poly_mul(modulus, a, b, product))
 }
 
 // The same product, by halves: Q2, Q7, Q8, Q9.
@@ -126,7 +128,7 @@ pub extern "C" fn saber_poly_mul_karatsuba(
 ) -> u8
     ensures { Multiplied modulus a.now b.now product.old result product.new }
 {
-    karatsuba::poly_mul_karatsuba(modulus, a, b, product)
+    answer(karatsuba::poly_mul_karatsuba(modulus, a, b, product))
 }
 
 // Rounding of one polynomial: Q7, Q8, Q9.
@@ -134,7 +136,7 @@ pub extern "C" fn saber_poly_mul_karatsuba(
 pub extern "C" fn saber_round(x: &[u16], rounded: &mut [u16]) -> u8
     ensures { Rounded x.now rounded.old result rounded.new }
 {
-    rounding::round(x, rounded)
+    answer(rounding::round(x, rounded))
 }
 
 // Reconciliation data of a polynomial: Q1, Q7, Q8, Q9.
@@ -142,7 +144,7 @@ pub extern "C" fn saber_round(x: &[u16], rounded: &mut [u16]) -> u8
 pub extern "C" fn saber_recon_data(set: u32, w: &[u16], data: &mut [u16]) -> u8
     ensures { ReconData set w.now «data».old result «data».new }
 {
-    reconciliation::recon_data(set, w, data)
+    answer(reconciliation::recon_data(set, w, data))
 }
 
 // Recovery of the message bits: Q1, Q7, Q8, Q9.
@@ -150,7 +152,7 @@ pub extern "C" fn saber_recon_data(set: u32, w: &[u16], data: &mut [u16]) -> u8
 pub extern "C" fn saber_recover(set: u32, v: &[u16], data: &[u16], bits: &mut [u16]) -> u8
     ensures { Recovered set v.now «data».now bits.old result bits.new }
 {
-    reconciliation::recover(set, v, data, bits)
+    answer(reconciliation::recover(set, v, data, bits))
 }
 
 // Packs a polynomial: Q2, Q7, Q8, Q9.
@@ -158,7 +160,7 @@ pub extern "C" fn saber_recover(set: u32, v: &[u16], data: &[u16], bits: &mut [u
 pub extern "C" fn saber_pack(width: u32, coefficients: &[u16], bytes: &mut [u8]) -> u8
     ensures { Packed width coefficients.now bytes.old result bytes.new }
 {
-    packing::pack(width, coefficients, bytes)
+    answer(packing::pack(width, coefficients, bytes))
 }
 
 // Unpacks a polynomial: Q2, Q7, Q9.
@@ -166,7 +168,7 @@ pub extern "C" fn saber_pack(width: u32, coefficients: &[u16], bytes: &mut [u8])
 pub extern "C" fn saber_unpack(width: u32, bytes: &[u8], coefficients: &mut [u16]) -> u8
     ensures { Unpacked width bytes.now coefficients.old result coefficients.new }
 {
-    packing::unpack(width, bytes, coefficients)
+    answer(packing::unpack(width, bytes, coefficients))
 }
 
 // SHAKE-128 fills an output of any length and never refuses.
@@ -174,7 +176,8 @@ pub extern "C" fn saber_unpack(width: u32, bytes: &[u8], coefficients: &mut [u16
 pub extern "C" fn saber_shake128(input: &[u8], output: &mut [u8]) -> u8
     ensures { Shaken input.now output.old result output.new }
 {
-    sha3::shake128(input, output)
+    sha3::shake128(input, output);
+    0
 }
 
 // SHA3-256: Q9.
@@ -182,7 +185,7 @@ pub extern "C" fn saber_shake128(input: &[u8], output: &mut [u8]) -> u8
 pub extern "C" fn saber_sha3_256(input: &[u8], digest: &mut [u8]) -> u8
     ensures { Hashed 32 (sha3_256 input.now) digest.old result digest.new }
 {
-    sha3::sha3_256(input, digest)
+    answer(sha3::sha3_256(input, digest))
 }
 
 // SHA3-512: Q9.
@@ -190,7 +193,7 @@ pub extern "C" fn saber_sha3_256(input: &[u8], digest: &mut [u8]) -> u8
 pub extern "C" fn saber_sha3_512(input: &[u8], digest: &mut [u8]) -> u8
     ensures { Hashed 64 (sha3_512 input.now) digest.old result digest.new }
 {
-    sha3::sha3_512(input, digest)
+    answer(sha3::sha3_512(input, digest))
 }
 
 // The lookup in two numbers: where the public key starts in a secret key of `secret_key` bytes, and how many bytes it has.
@@ -220,7 +223,7 @@ pub extern "C" fn saber_write_record(
     ciphertext: &[u8],
     record: &mut [u8],
 ) -> u8
-    ensures { Recorded (door_of (flagged has_door door)) (time_of (flagged has_time time)) set ciphertext.now
+    ensures { Recorded (flagged has_door door) (flagged has_time time) set ciphertext.now
         «record».old result «record».new }
 {
     saber_numbers::write_record(has_door, door, has_time, time, set, ciphertext, record)

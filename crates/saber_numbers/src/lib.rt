@@ -1,86 +1,55 @@
 // Calls in numbers alone, for callers in C and Rust: the lookup as an offset and a length, since no part of a slice can be handed back to them,
-// and a flag for each number that may be missing, since they pass no enum.
+// a flag for each number that may be missing, and an answer for each refusal, since they pass no enum.
 #![tactic(auto)]
 
 ghost use Rattle.std.specs.Prelude.{◌≡◌};
-ghost use Rattle.questions.specs.Answers.{written};
-ghost use Rattle.record_format.specs.Records.{door_of, time_of, door_number, time_number};
 ghost use Rattle.record_format.specs.Promises.{Recorded};
 ghost use Rattle.saber_numbers.specs.Lookup.{key_offset, key_length};
 ghost use Rattle.saber_numbers.specs.Numbers.{flagged, flag_of, or_old};
 ghost use Rattle.saber_numbers.specs.Promises.{ReadInto};
 
 use keys::lookup_answer;
-use record_format::{Door, Read, Time};
-use sets::set_params;
-
-// The number where the answer is 0, else 0.
-fn or_zero(answer: u8, number: usize) -> usize
-    ensures { result ≡ written answer number 0 }
-{
-    if answer == 0 { number } else { 0 }
-}
+use questions::answer;
 
 // Where the public key starts in a secret key of `secret_key` bytes, 0 where Q1 or Q5 says no.
 pub fn public_key_offset(set: u32, secret_key: usize) -> usize
     ensures { result ≡ key_offset set secret_key }
 {
-    let p = set_params(set);
-    or_zero(lookup_answer(set, secret_key), 416 * p.l)
+    match lookup_answer(set, secret_key) {
+        Ok(p) => 416 * p.l,
+        Err(_) => 0,
+    }
 }
 
 // How many bytes the public key has in it, 0 where Q1 or Q5 says no.
 pub fn public_key_length(set: u32, secret_key: usize) -> usize
     ensures { result ≡ key_length set secret_key }
 {
-    let p = set_params(set);
-    or_zero(lookup_answer(set, secret_key), p.pk)
-}
-
-// The door that a flag and a number mean.
-fn door_of(has_door: u8, door: u32) -> Door
-    ensures { result ≡ door_of (flagged has_door door) }
-{
-    if has_door == 0 {
-        return Door::Missing;
+    match lookup_answer(set, secret_key) {
+        Ok(p) => p.pk,
+        Err(_) => 0,
     }
-    Door::Number(door)
 }
 
-fn time_of(has_time: u8, time: u64) -> Time
-    ensures { result ≡ time_of (flagged has_time time) }
+// The number that a flag and a number mean.
+fn flagged<T: Copy>(flag: u8, number: T) -> Option<T>
+    ensures { result ≡ flagged flag number }
 {
-    if has_time == 0 {
-        return Time::Missing;
-    }
-    Time::Number(time)
+    if flag == 0 { None } else { Some(number) }
 }
 
-// Hands out a door: the flag, and the number where there is one.
-fn give_door(given: Door, has_door: &mut u8, door: &mut u32)
-    ensures { (has_door.new ≡ flag_of (door_number given)) × (door.new ≡ or_old (door_number given) door.old) }
+// Hands out a number that may be missing: the flag, and the number where there is one.
+fn give<T: Copy>(given: Option<T>, flag: &mut u8, number: &mut T)
+    ensures flag { flag.new ≡ flag_of given }
+    ensures number { number.new ≡ or_old given number.old }
 {
     match given {
-        Door::Missing => {
-            *has_door = 0;
+        None => {
+            *flag = 0;
         }
-        Door::Number(x) => {
-            *has_door = 1;
-            *door = x;
-        }
-    }
-}
-
-fn give_time(given: Time, has_time: &mut u8, time: &mut u64)
-    ensures { (has_time.new ≡ flag_of (time_number given)) × (time.new ≡ or_old (time_number given) time.old) }
-{
-    match given {
-        Time::Missing => {
-            *has_time = 0;
-        }
-        Time::Number(x) => {
-            *has_time = 1;
-            *time = x;
+        Some(x) => {
+            *flag = 1;
+            *number = x;
         }
     }
 }
@@ -95,16 +64,12 @@ pub fn write_record(
     ciphertext: &[u8],
     record: &mut [u8],
 ) -> u8
-    ensures { Recorded (door_of (flagged has_door door)) (time_of (flagged has_time time)) set ciphertext.now
+    ensures { Recorded (flagged has_door door) (flagged has_time time) set ciphertext.now
         «record».old result «record».new }
 {
-    record_writer::write_record(
-        door_of(has_door, door),
-        time_of(has_time, time),
-        set,
-        ciphertext,
-        record,
-    )
+    let door = flagged(has_door, door);
+    let time = flagged(has_time, time);
+    answer(record_writer::write_record(door, time, set, ciphertext, record))
 }
 
 // Reads a record: 10, 11, 1, 11, 12, 9. The caller lends a variable for each number of the entry; a missing number leaves its variable alone.
@@ -122,14 +87,12 @@ pub fn read_record(
         has_time.new time.new set.new ciphertext.new }
 {
     match record_reader::read_record(record, ciphertext) {
-        Read::Entry(head) => {
-            let d = head.door;
-            let t = head.time;
-            give_door(d, has_door, door);
-            give_time(t, has_time, time);
+        Ok(head) => {
+            give(head.door, has_door, door);
+            give(head.time, has_time, time);
             *set = head.set;
             0
         }
-        Read::Refused(number) => number,
+        Err(refusal) => refusal.into(),
     }
 }

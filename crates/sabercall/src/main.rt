@@ -1,146 +1,71 @@
 // Reads requests from standard input, a line each, and answers them.
 #![tactic(auto)]
 
-ghost use Rattle.std.specs.Prelude.{◌≤◌, length};
-ghost use Rattle.sabercall.specs.Requires.{Good};
-
+use std::alloc::Global;
 use std::io;
-use std::io::{Read, Write};
-use streams::Stream;
+use std::io::{BufRead, BufReader, ErrorKind, Read, Write};
+use streams::Failure;
 
-type Block = [u8; 65536];
+// How many bytes are read at once.
+const BLOCK: usize = 65536;
 
 // A line of 65,536 bytes, with a place more for a carriage return at its end, and one by which a longer line is known.
-type Line = [u8; 65538];
+const KEPT: usize = 65538;
 
-// Where the waiting bytes of the block are, how many bytes the line has, and whether there may be more to do.
-#[derive(Clone, Copy)]
-struct State {
-    at: usize,
-    end: usize,
-    kept: usize,
-    open: bool,
-}
-
-// Answers the line of the first `kept` bytes, and says whether all was written. Where a write fails there is no more to do.
-fn answer<W: Write>(output: &mut Stream<W>, line: &[u8], kept: usize) -> bool
-    requires { kept ≤ length line.now }
-{
-    call_replies::answer(output, &line[0..kept])
-}
-
-// Keeps a byte at the end of a line that is not too long.
-fn keep(b: u8, kept: usize, line: &mut Line) -> usize
-    requires { kept ≤ 65538 }
-    ensures { result ≤ 65538 }
-{
-    if kept < 65538 {
-        line[kept] = b;
-        return kept + 1;
-    }
-    kept
-}
-
-// How many bytes a line has before its newline: a carriage return there belongs to the end of the line.
-fn length_of(line: &Line, kept: usize) -> usize
-    requires { kept ≤ 65538 }
-    ensures { result ≤ 65538 }
-{
-    if kept > 0 {
-        if line[kept - 1] == b'\r' {
-            return kept - 1;
-        }
-    }
-    kept
-}
-
-// Reads another block. Input that ends in the middle of a line ends the line. Where it fails, the line has no answer.
-fn refill<R: Read, W: Write>(
-    input: &mut Stream<R>,
-    output: &mut Stream<W>,
-    line: &Line,
-    kept: usize,
-    block: &mut Block,
-) -> State
-    requires { kept ≤ 65538 }
-    ensures { Good result }
-{
-    let got = streams::read(input, block);
-    if !got.failed & !got.open & (kept > 0) {
-        answer(output, line, kept);
-    }
-    State {
-        at: 0,
-        end: got.count,
-        kept,
-        open: got.open,
-    }
-}
-
-// Takes a byte of the block, and answers the line at a newline.
-fn turn<R: Read, W: Write>(
-    input: &mut Stream<R>,
-    output: &mut Stream<W>,
-    s: State,
-    block: &mut Block,
-    line: &mut Line,
-) -> State
-    requires { Good s }
-    ensures { Good result }
-{
-    let at = s.at;
-    let end = s.end;
-    if at == end {
-        return refill(input, output, line, s.kept, block);
-    }
-    let b = block[at];
-    if b == b'\n' {
-        let n = length_of(line, s.kept);
-        return State {
-            at: at + 1,
-            end,
-            kept: 0,
-            open: answer(output, line, n),
+// Reads a line, of which no more than `KEPT` bytes are kept, and says whether a newline ends it. A carriage return before the newline belongs
+// to the end. A proved loop has to end, so it is over more turns than any run takes.
+fn read_line<R: BufRead>(input: &mut R, line: &mut Vec<u8>) -> io::Result<bool> {
+    for _ in 0..u64::MAX {
+        let waiting = match input.fill_buf() {
+            Ok(waiting) => waiting,
+            Err(error) if error.kind() == ErrorKind::Interrupted => continue,
+            Err(error) => return Err(error),
         };
-    }
-    State {
-        at: at + 1,
-        end,
-        kept: keep(b, s.kept, line),
-        open: true,
-    }
-}
-
-fn block_buffer() -> Block {
-    [0; 65536]
-}
-
-fn line_buffer() -> Line {
-    [0; 65538]
-}
-
-// Says why a read or a write failed, where one did. A proved loop has to end, and nothing says that the input does, so the turns are counted
-// down from a number that no run uses up.
-fn main(rt: HostRuntime) -> io::Result<()> {
-    let mut input = Stream::new(rt.stdin());
-    let mut output = Stream::new(rt.stdout());
-    let mut block = block_buffer();
-    let mut line = line_buffer();
-    let mut s = State {
-        at: 0,
-        end: 0,
-        kept: 0,
-        open: true,
-    };
-    let mut turns = u64::MAX;
-    while turns > 0 {
-        if !s.open {
-            streams::report(&rt, "sabercall: standard input", &input)?;
-            return streams::report(&rt, "sabercall: standard output", &output);
+        if waiting.is_empty() {
+            break;
         }
-        let next = turn(&mut input, &mut output, s, &mut block, &mut line);
-        s = next;
-        turns -= 1;
+        let newline = waiting.iter().position(|b| *b == b'\n');
+        let end = newline.unwrap_or(waiting.len());
+        let kept = end.min(KEPT.saturating_sub(line.len()));
+        line.extend_from_slice(&waiting[..kept])?;
+        match newline {
+            Some(place) => {
+                input.consume(place + 1);
+                if line.ends_with(b"\r") {
+                    line.pop();
+                }
+                return Ok(true);
+            }
+            None => input.consume(end),
+        }
+    }
+    Ok(false)
+}
+
+// Answers each line when it is read. Input that ends in the middle of a line ends the line. Where it fails, the line has no answer.
+fn answer_lines<R: Read + Drop, W: Write>(
+    alloc: Global,
+    input: R,
+    output: &mut W,
+) -> Result<(), Failure> {
+    let mut input = BufReader::with_capacity(alloc, BLOCK, input).map_err(Failure::Input)?;
+    let mut line = Vec::new(alloc);
+    'lines: for _ in 0..u64::MAX {
+        line.clear();
+        let is_ended = read_line(&mut input, &mut line).map_err(Failure::Input)?;
+        if is_ended || !line.is_empty() {
+            call_replies::answer(alloc, output, &line).map_err(Failure::Output)?;
+        }
+        if !is_ended {
+            break;
+        }
     }
     Ok(())
+}
+
+fn main(rt: HostRuntime) -> io::Result<()> {
+    match answer_lines(rt.alloc(), rt.stdin(), &mut rt.stdout()) {
+        Ok(()) => Ok(()),
+        Err(failure) => streams::report(&rt, "sabercall", &failure),
+    }
 }

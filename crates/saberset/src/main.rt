@@ -1,38 +1,29 @@
-// Prints the table of the parameter sets. Each function here says whether all was written; after a write that fails it writes nothing more.
+// Prints the table of the parameter sets.
 #![tactic(auto)]
 
+use std::alloc::{AllocError, Global};
 use std::io;
 use std::io::Write;
-use streams::Stream;
+use streams::Failure;
 
-// Prints a number and a space.
-fn print_column<W: Write>(output: &mut Stream<W>, x: usize) -> bool {
-    streams::print_decimal(output, x as u64) && streams::write_all(output, b" ")
-}
-
-// Prints a set's line.
-fn print_set<W: Write>(output: &mut Stream<W>, set: u32) -> bool {
-    let p = sets::set_params(set);
-    print_column(output, set as usize)
-        && print_column(output, p.l)
-        && print_column(output, p.mu)
-        && print_column(output, p.t as usize)
-        && print_column(output, p.g as usize)
-        && print_column(output, p.pk)
-        && print_column(output, p.sk)
-        && print_column(output, p.ct)
-        && streams::print_decimal(output, p.margin as u64)
-        && streams::write_all(output, b"\n")
+// The table, a line for each set.
+fn table(alloc: Global) -> Result<String, AllocError> {
+    let mut text = String::from_str(alloc, "set l mu t g pk sk ct margin\n")?;
+    for set in 1..=3 {
+        let p = sets::set_params(set);
+        writeln!(
+            text,
+            "{set} {} {} {} {} {} {} {} {}",
+            p.l, p.mu, p.t, p.g, p.pk, p.sk, p.ct, p.margin
+        )?;
+    }
+    Ok(text)
 }
 
 fn main(rt: HostRuntime) -> io::Result<()> {
-    let mut output = Stream::new(rt.stdout());
-    let is_written = streams::write_all(&mut output, b"set l mu t g pk sk ct margin\n")
-        && print_set(&mut output, 1)
-        && print_set(&mut output, 2)
-        && print_set(&mut output, 3);
-    if !is_written {
-        return streams::report(&rt, "saberset: standard output", &output);
+    let text = table(rt.alloc())?;
+    match streams::write_all(&mut rt.stdout(), text.as_bytes()) {
+        Ok(()) => Ok(()),
+        Err(error) => streams::report(&rt, "saberset", &Failure::Output(error)),
     }
-    Ok(())
 }

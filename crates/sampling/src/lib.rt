@@ -2,57 +2,41 @@
 #![tactic(auto)]
 
 ghost use Rattle.std.specs.Prelude.{◌≡◌, ◌*◌, length};
-ghost use Rattle.questions.specs.Answers.{earliest};
+ghost use Rattle.questions.specs.Refusals.{answer_of};
 ghost use Rattle.algebra.specs.Ring.{residues};
 ghost use Rattle.packing.specs.Packing.{unpacked};
-ghost use Rattle.sha3.specs.Hashes.{shake128};
-ghost use Rattle.sampling.specs.Sampling.{matrix, secret_of, secret, gen_matrix_questions, gen_secret_questions};
+ghost use Rattle.sampling.specs.Sampling.{matrix, secret_of, secret};
 ghost use Rattle.sampling.specs.Promises.{GenMatrix, GenSecret};
-ghost use Rattle.sampling.specs.Requires.{MatrixLengths, MatrixScratch, SampleLengths, CountScratch, SecretLengths};
+ghost use Rattle.sampling.specs.Requires.{MatrixLengths, SampleLengths, SecretLengths};
 
-use questions::ask;
-use sets::set_params;
+use questions::{Refusal, ask};
+use sets::known_params;
 
 // The bytes of the largest packed matrix, of four rows and columns.
 pub const MATRIX_BYTES: usize = 416 * 4 * 4;
 
 // The matrix of l rows of l polynomials, packed in 13 bits a coefficient, as SHAKE-128 gives it.
+#[tactic(auto, using(crate::specs::Laws::Sampling::matrix_cut))]
 pub fn packed_matrix_into(l: usize, seed: &[u8], bytes: &mut [u8])
     requires { length bytes.old ≡ 416 * l * l }
     ensures { unpacked 13 bytes.new ≡ matrix l seed.now }
 {
-    sha3::shake128_into(seed, bytes);
+    sha3::shake128(seed, bytes);
 }
 
-// The same as one flat list; the caller lends scratch for the packed one.
-fn matrix_with(l: usize, seed: &[u8], bytes: &mut [u8], output: &mut [u16])
-    requires { MatrixScratch l (length bytes.old) (length output.old) }
-    ensures { output.new ≡ matrix l seed.now }
-{
-    packed_matrix_into(l, seed, bytes);
-    packing::unpack_into(13, bytes, output);
-}
-
-// The same, with scratch of its own.
+// The same as one flat list.
 fn matrix_into(l: usize, seed: &[u8], output: &mut [u16])
     requires { MatrixLengths l (length output.old) }
     ensures { output.new ≡ matrix l seed.now }
 {
     let mut bytes = [0u8; MATRIX_BYTES];
-    let n = 416 * l * l;
-    matrix_with(l, seed, &mut bytes[0..n], output);
+    let bytes = &mut bytes[..416 * l * l];
+    packed_matrix_into(l, seed, bytes);
+    packing::unpack_into(13, bytes, output);
 }
 
-// The coefficients that bytes give, by counting: a number of mu bits has the two pieces of one. The caller lends scratch for the numbers.
-fn count_with(mu: u32, bytes: &[u8], numbers: &mut [u16], output: &mut [i8])
-    requires { CountScratch mu (length bytes.now) (length numbers.old) (length output.old) }
-    ensures { output.new ≡ secret_of mu bytes.now }
-{
-    packing::unpack_into(mu, bytes, numbers);
-    binomial::weigh_numbers(mu / 2, numbers, output);
-}
-
-// The coefficients that bytes give. A number of 8 bits is a byte, which the table weighs.
+// The coefficients that bytes give: a number of mu bits has the two pieces of one. A number of 8 bits is a byte, which the table weighs.
+#[tactic(auto, using(crate::specs::Laws::Halves::secret_bytes, crate::specs::Laws::Halves::secret_weighed))]
 fn sample_into(mu: u32, bytes: &[u8], output: &mut [i8])
     requires { SampleLengths mu (length bytes.now) (length output.old) }
     ensures { output.new ≡ secret_of mu bytes.now }
@@ -62,17 +46,9 @@ fn sample_into(mu: u32, bytes: &[u8], output: &mut [i8])
         return;
     }
     let mut numbers = [0u16; 1024];
-    let n = output.len();
-    count_with(mu, bytes, &mut numbers[0..n], output);
-}
-
-// The coefficients from SHAKE-128 of a seed, as many bytes as the buffer has.
-fn secret_with(mu: u32, seed: &[u8], buffer: &mut [u8], output: &mut [i8])
-    requires { SampleLengths mu (length buffer.old) (length output.old) }
-    ensures { output.new ≡ secret_of mu (shake128 seed.now (length buffer.old)) }
-{
-    sha3::shake128_into(seed, buffer);
-    sample_into(mu, buffer, output);
+    let numbers = &mut numbers[..output.len()];
+    packing::unpack_into(mu, bytes, numbers);
+    binomial::weigh_numbers(mu / 2, numbers, output);
 }
 
 // The secret of l polynomials, as one flat list of signed numbers.
@@ -80,70 +56,43 @@ pub fn secret_into(l: usize, mu: usize, seed: &[u8], output: &mut [i8])
     requires { SecretLengths l mu (length output.old) }
     ensures { output.new ≡ secret l mu seed.now }
 {
-    let mut buffer = [0u8; 768];
-    let n = 32 * l * mu;
-    secret_with(mu as u32, seed, &mut buffer[0..n], output);
+    let mut bytes = [0u8; 768];
+    let bytes = &mut bytes[..32 * l * mu];
+    sha3::shake128(seed, bytes);
+    sample_into(mu as u32, bytes, output);
 }
 
-// The same secret modulo 8192, as it is packed and multiplied; the caller lends scratch for the signed numbers.
-fn secret_residues_with(l: usize, mu: usize, seed: &[u8], signed: &mut [i8], output: &mut [u16])
-    requires { SecretLengths l mu (length signed.old) × (length output.old ≡ length signed.old) }
-    ensures { output.new ≡ residues 8192 (secret l mu seed.now) }
-{
-    secret_into(l, mu, seed, signed);
-    binomial::residues_into(signed, output);
-}
-
-// The same, with scratch of its own.
+// The same secret modulo 8192, as it is packed and multiplied.
 pub fn secret_residues_into(l: usize, mu: usize, seed: &[u8], output: &mut [u16])
     requires { SecretLengths l mu (length output.old) }
     ensures { output.new ≡ residues 8192 (secret l mu seed.now) }
 {
     let mut signed = [0i8; 1024];
-    let n = 256 * l;
-    secret_residues_with(l, mu, seed, &mut signed[0..n], output);
-}
-
-fn gen_matrix_answer(set: u32, seed: usize, matrix: usize) -> u8
-    ensures { result ≡ earliest (gen_matrix_questions set seed matrix) }
-{
-    let p = set_params(set);
-    let is_set = 0 < p.l;
-    let n = 256 * p.l * p.l;
-    ask(is_set, 1, ask(seed == 32, 3, ask(matrix == n, 9, 0)))
-}
-
-fn gen_secret_answer(set: u32, seed: usize, secret: usize) -> u8
-    ensures { result ≡ earliest (gen_secret_questions set seed secret) }
-{
-    let p = set_params(set);
-    let is_set = 0 < p.l;
-    let n = 256 * p.l;
-    ask(is_set, 1, ask(seed == 32, 3, ask(secret == n, 9, 0)))
+    let signed = &mut signed[..256 * l];
+    secret_into(l, mu, seed, signed);
+    binomial::residues_into(signed, output);
 }
 
 // The matrix from its seed: Q1, Q3, Q9.
-pub fn gen_matrix(set: u32, seed: &[u8], matrix: &mut [u16]) -> u8
-    ensures { GenMatrix set seed.now matrix.old result matrix.new }
+#[tactic(auto, using(sets::specs::Laws::Sets::few_polynomials), unfolding(questions::specs::Answers::earliest))]
+pub fn gen_matrix(set: u32, seed: &[u8], matrix: &mut [u16]) -> Result<(), Refusal>
+    ensures { GenMatrix set seed.now matrix.old (answer_of result) matrix.new }
 {
-    let r = gen_matrix_answer(set, seed.len(), matrix.len());
-    if r != 0 {
-        return r;
-    }
-    let p = set_params(set);
+    let p = known_params(set).ok_or(Refusal::UnknownSet)?;
+    ask(seed.len() == 32, Refusal::SeedLength)?;
+    ask(matrix.len() == 256 * p.l * p.l, Refusal::OutputLength)?;
     matrix_into(p.l, seed, matrix);
-    0
+    Ok(())
 }
 
 // The secret from its seed, signed: Q1, Q3, Q9.
-pub fn gen_secret(set: u32, seed: &[u8], secret: &mut [i8]) -> u8
-    ensures { GenSecret set seed.now secret.old result secret.new }
+#[tactic(auto, using(sets::specs::Laws::Sets::few_polynomials, sets::specs::Laws::Sets::is_set_lem), unfolding(questions::specs::Answers::earliest))]
+pub fn gen_secret(set: u32, seed: &[u8], secret: &mut [i8]) -> Result<(), Refusal>
+    ensures { GenSecret set seed.now secret.old (answer_of result) secret.new }
 {
-    let r = gen_secret_answer(set, seed.len(), secret.len());
-    if r != 0 {
-        return r;
-    }
-    let p = set_params(set);
+    let p = known_params(set).ok_or(Refusal::UnknownSet)?;
+    ask(seed.len() == 32, Refusal::SeedLength)?;
+    ask(secret.len() == 256 * p.l, Refusal::OutputLength)?;
     secret_into(p.l, p.mu, seed, secret);
-    0
+    Ok(())
 }

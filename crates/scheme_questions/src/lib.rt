@@ -1,12 +1,15 @@
-// What the scheme's five calls answer, from the set number and the lengths alone.
-#![tactic(auto)]
+// What the scheme's five calls answer, from the set number and the lengths alone: why a call is refused, else the parameters of its set.
+#![tactic(auto, using(sets::specs::Laws::Sets::is_set_lem), unfolding(questions::specs::Answers::earliest))]
 
-ghost use Rattle.std.specs.Prelude.{◌≡◌};
+ghost use Rattle.std.specs.Prelude.{◌≡◌, IfOk};
 ghost use Rattle.questions.specs.Answers.{earliest};
+ghost use Rattle.questions.specs.Refusals.{answer_of};
+ghost use Rattle.sets.specs.Sets.{params_of};
+ghost use Rattle.scheme_questions.specs.Requires.{KeygenLengths, EncapsLengths, DecapsLengths, EncryptLengths, DecryptLengths};
 ghost use Rattle.scheme_questions.specs.Questions.{keygen_questions, encaps_questions, decaps_questions, encrypt_questions, decrypt_questions};
 
-use questions::ask;
-use sets::set_params;
+use questions::{Refusal, ask};
+use sets::{Params, known_params};
 
 // Making keys: Q1, Q3, Q9.
 pub fn keygen_answer(
@@ -16,16 +19,18 @@ pub fn keygen_answer(
     z: usize,
     public_key: usize,
     secret_key: usize,
-) -> u8
-    ensures { result ≡ earliest (keygen_questions set matrix_seed secret_seed z public_key secret_key) }
+) -> Result<Params, Refusal>
+    ensures answer { answer_of result ≡ earliest (keygen_questions set matrix_seed secret_seed z public_key secret_key) }
+    ensures params { IfOk result (λ p. p ≡ params_of set) }
+    ensures fits { IfOk result (λ p. KeygenLengths p z public_key secret_key) }
 {
-    let p = set_params(set);
-    let is_set = 0 < p.l;
-    let public_fits = public_key == p.pk;
-    let secret_fits = secret_key == p.sk;
-    let q9 = ask(public_fits, 9, ask(secret_fits, 9, 0));
-    let q3 = ask(secret_seed == 32, 3, ask(z == 32, 3, q9));
-    ask(is_set, 1, ask(matrix_seed == 32, 3, q3))
+    let p = known_params(set).ok_or(Refusal::UnknownSet)?;
+    ask(matrix_seed == 32, Refusal::SeedLength)?;
+    ask(secret_seed == 32, Refusal::SeedLength)?;
+    ask(z == 32, Refusal::SeedLength)?;
+    let keys_fit = (public_key == p.pk) & (secret_key == p.sk);
+    ask(keys_fit, Refusal::OutputLength)?;
+    Ok(p)
 }
 
 // Encapsulation: Q1, Q3, Q4, Q9.
@@ -35,27 +40,35 @@ pub fn encaps_answer(
     seed: usize,
     ciphertext: usize,
     shared_secret: usize,
-) -> u8
-    ensures { result ≡ earliest (encaps_questions set public_key seed ciphertext shared_secret) }
+) -> Result<Params, Refusal>
+    ensures answer { answer_of result ≡ earliest (encaps_questions set public_key seed ciphertext shared_secret) }
+    ensures params { IfOk result (λ p. p ≡ params_of set) }
+    ensures fits { IfOk result (λ p. EncapsLengths p public_key ciphertext shared_secret) }
 {
-    let p = set_params(set);
-    let is_set = 0 < p.l;
-    let is_public_key = public_key == p.pk;
-    let ciphertext_fits = ciphertext == p.ct;
-    let q9 = ask(ciphertext_fits, 9, ask(shared_secret == 32, 9, 0));
-    ask(is_set, 1, ask(seed == 32, 3, ask(is_public_key, 4, q9)))
+    let p = known_params(set).ok_or(Refusal::UnknownSet)?;
+    ask(seed == 32, Refusal::SeedLength)?;
+    ask(public_key == p.pk, Refusal::PublicKeyLength)?;
+    let outputs_fit = (ciphertext == p.ct) & (shared_secret == 32);
+    ask(outputs_fit, Refusal::OutputLength)?;
+    Ok(p)
 }
 
 // Decapsulation: Q1, Q5, Q6, Q9.
-pub fn decaps_answer(set: u32, secret_key: usize, ciphertext: usize, shared_secret: usize) -> u8
-    ensures { result ≡ earliest (decaps_questions set secret_key ciphertext shared_secret) }
+pub fn decaps_answer(
+    set: u32,
+    secret_key: usize,
+    ciphertext: usize,
+    shared_secret: usize,
+) -> Result<Params, Refusal>
+    ensures answer { answer_of result ≡ earliest (decaps_questions set secret_key ciphertext shared_secret) }
+    ensures params { IfOk result (λ p. p ≡ params_of set) }
+    ensures fits { IfOk result (λ p. DecapsLengths p secret_key ciphertext shared_secret) }
 {
-    let p = set_params(set);
-    let is_set = 0 < p.l;
-    let is_secret_key = secret_key == p.sk;
-    let is_ciphertext = ciphertext == p.ct;
-    let q6 = ask(is_ciphertext, 6, ask(shared_secret == 32, 9, 0));
-    ask(is_set, 1, ask(is_secret_key, 5, q6))
+    let p = known_params(set).ok_or(Refusal::UnknownSet)?;
+    ask(secret_key == p.sk, Refusal::SecretKeyLength)?;
+    ask(ciphertext == p.ct, Refusal::CiphertextLength)?;
+    ask(shared_secret == 32, Refusal::OutputLength)?;
+    Ok(p)
 }
 
 // Encryption: Q1, Q3, Q4, Q9.
@@ -65,25 +78,33 @@ pub fn encrypt_answer(
     message: usize,
     seed: usize,
     ciphertext: usize,
-) -> u8
-    ensures { result ≡ earliest (encrypt_questions set public_key message seed ciphertext) }
+) -> Result<Params, Refusal>
+    ensures answer { answer_of result ≡ earliest (encrypt_questions set public_key message seed ciphertext) }
+    ensures params { IfOk result (λ p. p ≡ params_of set) }
+    ensures fits { IfOk result (λ p. EncryptLengths p public_key message ciphertext) }
 {
-    let p = set_params(set);
-    let is_set = 0 < p.l;
-    let is_public_key = public_key == p.pk;
-    let ciphertext_fits = ciphertext == p.ct;
-    let q4 = ask(is_public_key, 4, ask(ciphertext_fits, 9, 0));
-    ask(is_set, 1, ask(message == 32, 3, ask(seed == 32, 3, q4)))
+    let p = known_params(set).ok_or(Refusal::UnknownSet)?;
+    ask(message == 32, Refusal::SeedLength)?;
+    ask(seed == 32, Refusal::SeedLength)?;
+    ask(public_key == p.pk, Refusal::PublicKeyLength)?;
+    ask(ciphertext == p.ct, Refusal::OutputLength)?;
+    Ok(p)
 }
 
 // Decryption: Q1, Q5, Q6, Q9.
-pub fn decrypt_answer(set: u32, plain_secret: usize, ciphertext: usize, message: usize) -> u8
-    ensures { result ≡ earliest (decrypt_questions set plain_secret ciphertext message) }
+pub fn decrypt_answer(
+    set: u32,
+    plain_secret: usize,
+    ciphertext: usize,
+    message: usize,
+) -> Result<Params, Refusal>
+    ensures answer { answer_of result ≡ earliest (decrypt_questions set plain_secret ciphertext message) }
+    ensures params { IfOk result (λ p. p ≡ params_of set) }
+    ensures fits { IfOk result (λ p. DecryptLengths p plain_secret ciphertext message) }
 {
-    let p = set_params(set);
-    let is_set = 0 < p.l;
-    let is_secret = plain_secret == 416 * p.l;
-    let is_ciphertext = ciphertext == p.ct;
-    let q6 = ask(is_ciphertext, 6, ask(message == 32, 9, 0));
-    ask(is_set, 1, ask(is_secret, 5, q6))
+    let p = known_params(set).ok_or(Refusal::UnknownSet)?;
+    ask(plain_secret == 416 * p.l, Refusal::SecretKeyLength)?;
+    ask(ciphertext == p.ct, Refusal::CiphertextLength)?;
+    ask(message == 32, Refusal::OutputLength)?;
+    Ok(p)
 }

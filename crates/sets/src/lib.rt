@@ -1,8 +1,8 @@
 // The parameter sets by number.
 #![tactic(auto)]
 
-ghost use Rattle.std.specs.Prelude.{◌≡◌};
-ghost use Rattle.sets.specs.Sets.{params_of};
+ghost use Rattle.std.specs.Prelude.{◌≡◌, is_some, IfSome};
+ghost use Rattle.sets.specs.Sets.{params_of, known};
 
 // The parameters of a set. An unknown set has 0 everywhere.
 #[derive(Clone, Copy)]
@@ -80,4 +80,13 @@ pub fn set_params(set: u32) -> Params
             margin: 0,
         },
     }
+}
+
+// The parameters of a number that means a set.
+pub fn known_params(set: u32) -> Option<Params>
+    ensures known { is_some result ≡ known set }
+    ensures params { IfSome result (λ p. p ≡ params_of set) }
+{
+    let p = set_params(set);
+    if 0 < p.l { Some(p) } else { None }
 }

@@ -1,7 +1,7 @@
 // The sponge of FIPS 202 on bytes, at any rate.
 #![tactic(auto)]
 
-ghost use Rattle.std.specs.Prelude.{◌≡◌, ◌++◌, ◌<◌, ◌≤◌, ◌-◌, min, length, replicate};
+ghost use Rattle.std.specs.Prelude.{◌≡◌, ◌++◌, ◌<◌, ◌≤◌, ◌-◌, length, replicate};
 ghost use Rattle.lists.specs.Lists.{from};
 ghost use Rattle.keccak.specs.Keccak.{five, state, keccak_f};
 ghost use Rattle.sponge.specs.Sponge.{mix_at, byte_at, padding, absorb, squeezed, sponge};
@@ -72,15 +72,13 @@ fn absorb(message: &[u8], rate: usize, domain: u8) -> [[u64; 5]; 5]
     ensures { keccak_f result ≡ absorb rate domain message.now }
 {
     let mut a = [[0u64; 5]; 5];
-    let mut at = 0;
-    while rate <= message.len() - at {
-        let block = block_of(&message[at..at + rate]);
-        let next = keccak::permute(mix(a, &block));
-        a = next;
-        at += rate;
+    let mut rest = message;
+    while rest.len() >= rate {
+        let (block, behind) = rest.split_at(rate);
+        a = keccak::permute(mix(a, &block_of(block)));
+        rest = behind;
     }
-    let block = last_block(&message[at..], rate, domain);
-    mix(a, &block)
+    mix(a, &last_block(rest, rate, domain))
 }
 
 // The first bytes of a state: whole lanes, and what is left of one.
@@ -88,18 +86,11 @@ fn state_into(a: [[u64; 5]; 5], output: &mut [u8])
     requires { length output.old < 200 }
     ensures { output.new ≡ from (length output.old) (byte_at a) }
 {
-    let mut k = 0;
-    while k < output.len() / 8 {
+    let lanes = output.len() / 8;
+    for k in 0..lanes {
         little_endian::store(a[k % 5][k / 5], &mut output[8 * k..8 * k + 8]);
-        k += 1;
     }
-    little_endian::store(a[k % 5][k / 5], &mut output[8 * k..]);
-}
-
-fn least(x: usize, y: usize) -> usize
-    ensures { result ≡ min x y }
-{
-    if x < y { x } else { y }
+    little_endian::store(a[lanes % 5][lanes / 5], &mut output[8 * lanes..]);
 }
 
 // The output, from a state as `absorb` leaves it.
@@ -112,7 +103,7 @@ fn squeeze(start: [[u64; 5]; 5], rate: usize, output: &mut [u8])
     while at < output.len() {
         let next = keccak::permute(a);
         a = next;
-        let end = at + least(rate, output.len() - at);
+        let end = at + rate.min(output.len() - at);
         state_into(a, &mut output[at..end]);
         at = end;
     }

@@ -1,32 +1,27 @@
-// Standard input and output of the programs, by calls that tell an error from an end. A call that a signal interrupts is made again. After
-// any other that fails, the stream keeps why.
+// Standard input and output of the programs. A call that a signal interrupts is made again; any other that fails ends the work, and the
+// program says why.
 #![tactic(auto)]
 
-ghost use Rattle.std.specs.Prelude.{◌≤◌, length};
+ghost use Rattle.std.specs.Prelude.{◌≤◌, length, IfOk, OnOk};
+ghost use Rattle.std.specs.Io.KnownBytes.{Appends};
 
-use itoa::Buffer;
-use std::io;
 use std::io::{ErrorKind, Read, Write};
+use std::{fmt, io};
 
-// A reader or a writer, and why a call on it failed last.
-#[derive(Drop)]
-pub struct Stream<S> {
-    inner: S,
-    error: Option<io::Error>,
+// On which stream a call failed, and why.
+#[derive(Debug, Drop)]
+pub enum Failure {
+    Input(io::Error),
+    Output(io::Error),
 }
 
-impl<S> Stream<S> {
-    pub fn new(inner: S) -> Self {
-        Stream { inner, error: None }
+impl fmt::Display for Failure {
+    fn fmt<W: fmt::Write>(&self, f: &mut fmt::Formatter<W>) -> fmt::Result {
+        match self {
+            Failure::Input(error) => write!(f, "standard input: {error}"),
+            Failure::Output(error) => write!(f, "standard output: {error}"),
+        }
     }
-}
-
-// What reading gave: how many bytes stand at the front of the buffer, whether there may be more input, and whether a call failed.
-#[derive(Clone, Copy)]
-pub struct Got {
-    pub count: usize,
-    pub open: bool,
-    pub failed: bool,
 }
 
 // Whether a call that gave this was interrupted.
@@ -34,108 +29,59 @@ fn is_interrupted(error: &io::Error) -> bool {
     error.kind() == ErrorKind::Interrupted
 }
 
-// Reads once. A call that was interrupted gives no bytes, and that there may be more.
-pub fn read<R: Read>(input: &mut Stream<R>, buffer: &mut [u8]) -> Got
-    ensures { result.count ≤ length buffer.new }
+// Reads until the buffer is full or the input ends, and says how many bytes stand at its front. A proved loop has to end, so it is over
+// more turns than any run takes.
+pub fn read_full<R: Read>(input: &mut R, buffer: &mut [u8]) -> io::Result<usize>
+    ensures { IfOk result (λ count. count ≤ length buffer.new) }
 {
-    match input.inner.read(buffer) {
-        Ok(count) => Got {
-            count,
-            open: count > 0,
-            failed: false,
-        },
-        Err(error) => {
-            let interrupted = is_interrupted(&error);
-            if !interrupted {
-                input.error = Some(error);
-            }
-            Got {
-                count: 0,
-                open: interrupted,
-                failed: !interrupted,
-            }
-        }
-    }
-}
-
-// Reads until the buffer is full, the input ends or a call fails. A proved loop has to end, so the turns are counted down from a number
-// that no run uses up.
-pub fn read_full<R: Read>(input: &mut Stream<R>, buffer: &mut [u8]) -> Got
-    ensures { result.count ≤ length buffer.new }
-{
-    let n = buffer.len();
     let mut at = 0;
-    let mut turns = u64::MAX;
-    while turns > 0 && at < n {
-        let got = read(input, &mut buffer[at..n]);
-        if !got.open {
-            return Got {
-                count: at,
-                open: false,
-                failed: got.failed,
-            };
+    for _ in 0..u64::MAX {
+        if at == buffer.len() {
+            break;
         }
-        at += got.count;
-        turns -= 1;
-    }
-    Got {
-        count: at,
-        open: true,
-        failed: false,
-    }
-}
-
-// Writes all of a text, or stops at the first call that fails or takes nothing; says whether all is written.
-pub fn write_all<W: Write>(output: &mut Stream<W>, text: &[u8]) -> bool {
-    let n = text.len();
-    let mut at = 0;
-    let mut turns = u64::MAX;
-    while turns > 0 && at < n {
-        let rest = &text[at..n];
-        match output.inner.write(rest) {
-            Ok(0) => {
-                output.error = Some(io::Error::from(ErrorKind::WriteZero));
-                return false;
-            }
+        match input.read(&mut buffer[at..]) {
+            Ok(0) => break,
             Ok(count) => at += count,
-            Err(error) => {
-                if !is_interrupted(&error) {
-                    output.error = Some(error);
-                    return false;
-                }
-            }
+            Err(error) if is_interrupted(&error) => {}
+            Err(error) => return Err(error),
         }
-        turns -= 1;
     }
-    at == n
+    Ok(at)
 }
 
-// Writes a number in decimal.
-pub fn print_decimal<W: Write>(output: &mut Stream<W>, x: u64) -> bool {
-    let mut buffer = Buffer::new();
-    write_all(output, buffer.format(x).as_bytes())
+// Writes all of a text. A write that takes nothing fails.
+pub fn write_all<W: Write>(output: &mut W, text: &[u8]) -> io::Result<()>
+    ensures { OnOk result (Appends (W.contents output.old) (W.contents output.new) text.now) }
+{
+    let mut at = 0;
+    for _ in 0..u64::MAX {
+        if at == text.len() {
+            return Ok(());
+        }
+        let rest = &text[at..];
+        match output.write(rest) {
+            Ok(0) => return Err(io::Error::from(ErrorKind::WriteZero)),
+            Ok(taken) => at += taken,
+            Err(error) if is_interrupted(&error) => {}
+            Err(error) => return Err(error),
+        }
+    }
+    Err(io::Error::from(ErrorKind::TimedOut))
 }
 
 // The text of an error without the number that the system gives it.
 fn reason(text: &str) -> &str {
-    match text.split_once(" (os error ") {
-        Some((reason, _)) => reason,
-        None => text,
-    }
+    text.split_once(" (os error ")
+        .map_or(text, |(reason, _)| reason)
 }
 
-// Says on standard error why a call on a stream failed last, where one did.
-pub fn report<S>(
+// Says on standard error why a program stopped.
+pub fn report(
     rt: &(impl Eprint + AllocGlobal),
-    what: &str,
-    stream: &Stream<S>,
+    program: &str,
+    failure: &Failure,
 ) -> io::Result<()> {
-    match &stream.error {
-        Some(error) => {
-            let text = format!(in rt.alloc(); "{error}")?;
-            let reason = reason(text.as_str());
-            eprintln!(rt; "{what}: {reason}")
-        }
-        None => Ok(()),
-    }
+    let text = format!(in rt.alloc(); "{failure}")?;
+    let reason = reason(text.as_str());
+    eprintln!(rt; "{program}: {reason}")
 }

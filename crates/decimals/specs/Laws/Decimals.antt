@@ -1,16 +1,19 @@
 -- Laws of decimal numbers: the digits of a number spell it, and digits are read one after the other.
 use Prim.Native.Nat.{ℕ, zero, suc, ◌+◌, ◌-◌, ◌*◌, ◌/◌, ◌%◌, ◌^◌, ◌<◌, ◌≤◌}
-use Rattle.std.specs.Prelude.{true, ◌&&◌, ◌⊎◌, ◌≡◌, ltb, length, drop}
+use Rattle.std.specs.Prelude.{true, ◌&&◌, ◌≡◌, Ok, Err, Bool, ltb, leb, length, drop}
+use Rattle.std.specs.List.{list_all}
 use Rattle.std.proofs.Math.Bool.{false}
 use mathlib.Core.List.{List, [], ◌∷◌, ◌++◌}
-use Rattle.std.proofs.Common.{inl, inr, ap, ◌∙◌, arith, length-append, drop_of_length-le, lt-ltb, le-ltb, le-leb}
+use Rattle.std.proofs.Common.{ap, ◌∙◌, arith, length-append, drop_of_length-le, lt-ltb, le-ltb, le-leb, leb-true, leb-false}
 use Rattle.std.proofs.Math.Path.{refl}
 use Rattle.std.proofs.Math.Decide.{dec_lt}
 use Rattle.std.proofs.Math.ListN.{get_or}
 use Rattle.std.proofs.lemmas.Bool.{lt-leb}
-use Rattle.decimals.specs.Decimals.{every, is_digit, is_decimal, value_behind, value, ReadDecimal, digit, digits_within, decimal}
-use Rattle.decimals.specs.Ensures.{Longer}
-use Rattle.lists.proofs.Laws.Booleans.{and_right, and_true, and_assoc}
+use Rattle.std.proofs.lemmas.List.Recursion.{and_at}
+use Rattle.decimals.specs.declared.Fault.{Fault}
+use Rattle.decimals.specs.declared.Fault.TheVariants.{BadDigit}
+use Rattle.decimals.specs.Decimals.{is_digit, is_decimal, value_behind, value, digit, digits_within, decimal, read_as, number_read}
+use Rattle.lists.proofs.Laws.Booleans.{and_left, and_right, and_true, and_assoc}
 use Rattle.lists.proofs.Laws.Lists.{drop_next}
 
 pub digit_yes : (b : ℕ) → 48 ≤ b → b ≤ 57 → is_digit b ≡ true
@@ -68,22 +71,31 @@ digit_is x h = digit_yes (digit x) (omega arith) (omega arith)
 
 -- a digit more
 module _ (d : ℕ) where
-  every_more : (ds : List ℕ) → every is_digit (ds ++ d ∷ []) ≡ every is_digit ds && is_digit d
-  unfolding every
+  every_more : (ds : List ℕ) → list_all is_digit (ds ++ d ∷ []) ≡ list_all is_digit ds && is_digit d
   every_more [] = and_true (is_digit d)
-  every_more (b ∷ ds) = rw (every_more ds) (and_assoc (is_digit b) (every is_digit ds) (is_digit d))
+  every_more (b ∷ ds) = rw (every_more ds) (and_assoc (is_digit b) (list_all is_digit ds) (is_digit d))
 
   value_more : (v : ℕ) (ds : List ℕ) → value_behind v (ds ++ d ∷ []) ≡ value_behind v ds * 10 + (d - digit 0)
   unfolding value_behind
   value_more v [] = refl
   value_more v (b ∷ ds) = value_more (v * 10 + (b - digit 0)) ds
 
-pub all_digits : (ds : List ℕ) → is_decimal ds ≡ true → every is_digit ds ≡ true
+pub all_digits : (ds : List ℕ) → is_decimal ds ≡ true → list_all is_digit ds ≡ true
 unfolding is_decimal
-all_digits ds h = and_right (ltb 0 (length ds)) (every is_digit ds) h
+all_digits ds h = and_right (ltb 0 (length ds)) (list_all is_digit ds) h
+
+-- a word of digits is one digit or more, and none of its bytes is below `0`
+pub decimal_some : (word : List ℕ) → 0 < length word → list_all is_digit word ≡ is_decimal word
+unfolding is_decimal
+decimal_some word h = rw (lt-ltb 0 (length word) h)
+
+pub digit_least : (word : List ℕ) (k : ℕ) → is_decimal word ≡ true → k < length word → 48 ≤ get_or word k 0
+digit_least word k h l =
+    let yes = and_at (list_all is_digit) is_digit refl (λ _ _. refl) word k 0 l (all_digits word h) in
+    leb-true 48 (get_or word k 0) (and_left (leb 48 (get_or word k 0)) (leb (get_or word k 0) 57) yes)
 
 spells_one : (n : ℕ) → n < 10 → Spells n (digit n ∷ [])
-unfolding is_decimal every value_behind
+unfolding is_decimal value_behind
 spells_one n l = record { decimal = rw (digit_is n l); number = omega arith }
 
 spells_more : (n : ℕ) (ds : List ℕ) → Spells (n / 10) ds → Spells n (ds ++ digit (n % 10) ∷ [])
@@ -118,70 +130,44 @@ unfolding value_behind
 value_grows v [] = omega arith
 value_grows v (b ∷ bs) = omega (arith, value_grows (v * 10 + (b - 48)) bs)
 
--- a word of which all is read but `rest`
-pub data Value (most : ℕ) (word : List ℕ) (v f : ℕ) (rest : List ℕ) : Type 0 where
-  small : f ≡ 0 → value_behind v rest ≡ value word → Value most word v f rest
-  large : f ≡ 4 → most < value word → Value most word v f rest
-
-pub record Partly (most : ℕ) (word : List ℕ) (v f : ℕ) (rest : List ℕ) : Type 0 where
+-- a word of which all is read but `rest`, and v spells the digits before it
+pub record Partly (most : ℕ) (word : List ℕ) (v : ℕ) (rest : List ℕ) : Type 0 where
   pub within : v ≤ most
-  pub digits : every is_digit word ≡ every is_digit rest
-  pub number : Value most word v f rest
+  pub number : value_behind v rest ≡ value word
 
-pub partly_none : (most : ℕ) (word : List ℕ) → Partly most word 0 0 word
-partly_none most word = record { within = omega arith; digits = refl; number = small refl refl }
+pub read_none : (most : ℕ) (word : List ℕ) → is_decimal word ≡ false → Err BadDigit ≡ number_read most word
+unfolding number_read
+read_none most word h = rw h
 
-all_read :
-    {most : ℕ} {word : List ℕ} {v f : ℕ} → 0 < length word → v ≤ most → every is_digit word ≡ true → Value most word v f [] → ReadDecimal most word v f
-unfolding is_decimal value_behind
-all_read {most} {word} h within digits (small e same) =
-    record {
-      faults = rw (lt-ltb 0 (length word) h, digits, le-leb (value word) most (omega arith)) e;
-      within = within;
-      number = λ q. same;
-    }
-all_read {most} {word} h within digits (large e more) =
-    record {
-      faults = rw (lt-ltb 0 (length word) h, digits, lt-leb (value word) most more) e;
-      within = within;
-      number = λ q. absurd (omega arith);
-    }
+module _ {most : ℕ} {word : List ℕ} {v : ℕ} where
+  next : (i : ℕ) → i < length word → Partly most word v (drop i word) → value_behind (v * 10 + (get_or word i 0 - 48)) (drop (i + 1) word) ≡ value word
+  unfolding value_behind
+  next i h p = rw (drop_next word i 0 h) at p.number
 
-module _ {most : ℕ} {word : List ℕ} {v f : ℕ} where
   pub partly_more :
-      {v' f' : ℕ} (i : ℕ) → i < length word → 48 ≤ get_or word i 0 → get_or word i 0 ≤ 57 → Partly most word v f (drop i word) →
-      Longer most v f (get_or word i 0 - 48) v' f' → Partly most word v' f' (drop (i + 1) word)
-  unfolding every value_behind
-  partly_more {v'} {f'} i h low high p l =
-      record { within = l.within p.within; digits = p.digits ∙ rw (next, digit_yes b low high); number = number p.number l.state }
+      {v' : ℕ} (i : ℕ) → i < length word → v' ≡ v * 10 + (get_or word i 0 - 48) → v' ≤ most → Partly most word v (drop i word) →
+      Partly most word v' (drop (i + 1) word)
+  partly_more i h e l p = record { within = l; number = rw e (next i h p) }
+
+  pub partly_large :
+      {e : Fault} (i : ℕ) → i < length word → is_decimal word ≡ true →
+      Err e ≡ read_as true (leb (v * 10 + (get_or word i 0 - 48)) most) (v * 10 + (get_or word i 0 - 48)) → Partly most word v (drop i word) →
+      Err e ≡ number_read most word
+  unfolding number_read
+  partly_large {e} i h formed r p = go (leb (v * 10 + (get_or word i 0 - 48)) most) refl r
     where
-      b : ℕ
-      b = get_or word i 0
+      go :
+          (t : Bool) → leb (v * 10 + (get_or word i 0 - 48)) most ≡ t → Err e ≡ read_as true t (v * 10 + (get_or word i 0 - 48)) →
+          Err e ≡ read_as (is_decimal word) (leb (value word) most) (value word)
+      go true s r = cc
+      go false s r =
+          let grows = value_grows (v * 10 + (get_or word i 0 - 48)) (drop (i + 1) word) in
+          let large : most < value word = omega (arith, next i h p, grows, leb-false (v * 10 + (get_or word i 0 - 48)) most s) in
+          rw (formed, lt-leb (value word) most large) r
 
-      next : drop i word ≡ b ∷ drop (i + 1) word
-      next = drop_next word i 0 h
-
-      number :
-          Value most word v f (drop i word) → ((v' ≡ v * 10 + (b - 48)) × (f' ≡ f)) ⊎ ((most < v * 10 + (b - 48)) × (f' ≡ 4)) →
-          Value most word v' f' (drop (i + 1) word)
-      number (small e same) (inl k) = small (k.1 ∙ e) (rw k.0 (rw next at same))
-      number (small e same) (inr k) =
-          let rest : value_behind (v * 10 + (b - 48)) (drop (i + 1) word) ≡ value word = rw next at same in
-          large k.1 (omega (arith, value_grows (v * 10 + (b - 48)) (drop (i + 1) word)))
-      number (large e more) (inl k) = large (k.1 ∙ e) more
-      number (large e more) (inr k) = large k.1 more
-
-  pub partly_bad : (i : ℕ) → i < length word → is_digit (get_or word i 0) ≡ false → Partly most word v f (drop i word) → ReadDecimal most word 0 2
-  unfolding every is_decimal
-  partly_bad i h bad p =
-      let none : every is_digit word ≡ false = p.digits ∙ rw (drop_next word i 0 h, bad) in
-      record { faults = rw (lt-ltb 0 (length word) (omega arith), none); within = omega arith; number = λ e. absurd (omega arith) }
-
-  pub partly_all : (i : ℕ) → 0 < length word → length word ≤ i → Partly most word v f (drop i word) → ReadDecimal most word v f
-  unfolding every
-  partly_all i h l p = let q = rw (drop_of_length-le word l) at p in all_read h q.within q.digits q.number
-
-pub none_read : (most : ℕ) (word : List ℕ) → length word ≡ 0 → ReadDecimal most word 0 2
-unfolding is_decimal
-none_read most [] h = record { faults = refl; within = omega arith; number = λ e. absurd (omega arith) }
-none_read most (b ∷ bs) h = absurd (omega arith)
+  pub partly_all : (i : ℕ) → is_decimal word ≡ true → length word ≤ i → Partly most word v (drop i word) → Ok v ≡ number_read most word
+  unfolding number_read value_behind
+  partly_all i formed h p =
+      let e : v ≡ value word = rw (drop_of_length-le word h) at p.number in
+      let l : value word ≤ most = omega (arith, p.within) in
+      rw (formed, le-leb (value word) most l, e)

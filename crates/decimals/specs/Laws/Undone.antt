@@ -1,19 +1,21 @@
 -- The undo-law: the text of a list of numbers in -128 .. 127 reads as that list.
-use Rattle.std.specs.Prelude.{ℕ, suc, ◌≤◌, true, false, List, [], ◌∷◌, ◌++◌, map, ◌≡◌, refl, leb, ℤ, pos, negsuc, take}
+use Rattle.std.specs.Prelude.{ℕ, suc, ◌≤◌, true, false, List, [], ◌∷◌, ◌++◌, map, ◌≡◌, refl, Result, Ok, Err, leb, ℤ, pos, negsuc, take}
+use Rattle.std.specs.List.{list_all}
+use Rattle.std.specs.Result.{IsOkAnd}
 use Rattle.std.proofs.lemmas.Bool.{false≢true}
 use Rattle.std.proofs.Common.{sym, ap, ap₂, ◌∙◌, arith, leb-true, ne_eqb}
-use Rattle.decimals.specs.Decimals.{every, decimal, is_digit, is_decimal}
+use Rattle.decimals.specs.declared.Fault.{Fault}
+use Rattle.decimals.specs.Decimals.{decimal, is_digit, is_decimal}
 use Rattle.decimals.specs.Signed.{minus, comma, number_text, further_text, list_text, pieces, is_none, pieces_of, is_negative}
-use Rattle.decimals.specs.Signed.{is_formed, number_of, is_small, numbers_of, fault_of, ReadList}
+use Rattle.decimals.specs.Signed.{is_formed, number_of, is_small, numbers_of, list_read, read_to}
 use Rattle.decimals.specs.Laws.Decimals.{all_digits, spelled}
 use Rattle.decimals.specs.Laws.Pieces.{none_no}
 use Rattle.lists.proofs.Laws.Booleans.{and_left, and_right}
 
 -- ---- a number
 
-first_digit : (b : ℕ) (ds : List ℕ) → every is_digit (b ∷ ds) ≡ true → 48 ≤ b
-unfolding every
-first_digit b ds h = leb-true 48 b (and_left (leb 48 b) (leb b 57) (and_left (is_digit b) (every is_digit ds) h))
+first_digit : (b : ℕ) (ds : List ℕ) → list_all is_digit (b ∷ ds) ≡ true → 48 ≤ b
+first_digit b ds h = leb-true 48 b (and_left (leb 48 b) (leb b 57) (and_left (is_digit b) (list_all is_digit ds) h))
 
 -- digits have no sign and no comma
 unsigned : (ds : List ℕ) → is_decimal ds ≡ true → is_negative ds ≡ false
@@ -21,11 +23,11 @@ unfolding is_decimal
 unsigned [] h = absurd (false≢true h)
 unsigned (b ∷ ds) h = ne_eqb b minus (λ e. omega (arith, first_digit b ds (all_digits (b ∷ ds) h)))
 
-digits_part : (ds rest : List ℕ) (ps : List (List ℕ)) → every is_digit ds ≡ true → pieces rest ≡ [] ∷ ps → pieces (ds ++ rest) ≡ ds ∷ ps
-unfolding every pieces
+digits_part : (ds rest : List ℕ) (ps : List (List ℕ)) → list_all is_digit ds ≡ true → pieces rest ≡ [] ∷ ps → pieces (ds ++ rest) ≡ ds ∷ ps
+unfolding pieces
 digits_part [] rest ps h e = e
 digits_part (b ∷ ds) rest ps h e =
-    rw (ne_eqb b comma (λ q. omega (arith, first_digit b ds h)), digits_part ds rest ps (and_right (is_digit b) (every is_digit ds) h) e)
+    rw (ne_eqb b comma (λ q. omega (arith, first_digit b ds h)), digits_part ds rest ps (and_right (is_digit b) (list_all is_digit ds) h) e)
 
 -- the text of a number is a piece that reads as the number
 record Undone (z : ℤ) (piece : List ℕ) : Type 0 where
@@ -54,12 +56,11 @@ number_undone (negsuc n) =
 -- ---- a list
 
 further_parts : (zs : List ℤ) → pieces (further_text zs) ≡ [] ∷ map number_text zs
-unfolding further_text pieces
+unfolding pieces
 further_parts [] = refl
 further_parts (z ∷ zs) = rw ((number_undone z).part (further_text zs) (map number_text zs) (further_parts zs))
 
-all_formed : (zs : List ℤ) → every is_formed (map number_text zs) ≡ true
-unfolding every
+all_formed : (zs : List ℤ) → list_all is_formed (map number_text zs) ≡ true
 all_formed [] = refl
 all_formed (z ∷ zs) = rw ((number_undone z).formed, all_formed zs)
 
@@ -69,8 +70,8 @@ all_numbers (z ∷ zs) = ap₂ ◌∷◌ (number_undone z).number (all_numbers z
 
 -- just `-` is the text of no number
 no_number : (zs : List ℤ) → pieces (minus ∷ []) ≡ map number_text zs → ⊥
-unfolding every pieces is_formed is_decimal
-no_number zs e = false≢true (ap (every is_formed) e ∙ all_formed zs)
+unfolding pieces is_formed is_decimal
+no_number zs e = false≢true (ap (list_all is_formed) e ∙ all_formed zs)
 
 list_parts : (zs : List ℤ) → pieces_of (list_text zs) ≡ map number_text zs
 unfolding pieces_of is_none list_text
@@ -80,13 +81,13 @@ list_parts (z ∷ zs) = rw (none_no (list_text (z ∷ zs)) (λ e. no_number (z �
     parts : pieces (list_text (z ∷ zs)) ≡ map number_text (z ∷ zs)
     parts = (number_undone z).part (further_text zs) (map number_text zs) (further_parts zs)
 
-pub undone : (zs : List ℤ) → every is_small zs ≡ true → (fault_of (list_text zs) ≡ 0) × (numbers_of (list_text zs) ≡ zs)
-unfolding fault_of numbers_of
-undone zs h = (rw (list_parts zs, all_formed zs, all_numbers zs, h), rw (list_parts zs) (all_numbers zs))
+pub undone : (zs : List ℤ) → list_all is_small zs ≡ true → list_read (list_text zs) ≡ Ok zs
+unfolding list_read numbers_of
+undone zs h = rw (list_parts zs, all_formed zs, all_numbers zs, h)
 
 -- so what is read of the text of a list is the list
 pub read_back :
-    {list : List ℤ} {n f : ℕ} (zs : List ℤ) → every is_small zs ≡ true → ReadList (list_text zs) list n f → (f ≡ 0) × (take n list ≡ zs)
-read_back zs h r =
-    let sound = r.faults ∙ (undone zs h).0 in
-    (sound, r.numbers sound ∙ (undone zs h).1)
+    (list : List ℤ) (read : Result ℕ Fault) (zs : List ℤ) → list_all is_small zs ≡ true → read_to list read ≡ list_read (list_text zs) →
+    IsOkAnd read (λ n. take n list ≡ zs)
+read_back list (Ok n) zs h r = let e = r ∙ undone zs h in cc
+read_back list (Err e) zs h r = let e = r ∙ undone zs h in cc

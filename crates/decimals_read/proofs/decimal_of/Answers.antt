@@ -1,21 +1,19 @@
 -- `decimals_read::decimal_of` meets its contract: what is read and what is left are the word.
-use Rattle.std.proofs.Common.{rules}
-use Rattle.decimals.specs.Laws.Decimals.{partly_more, partly_bad, partly_all, none_read, digit_below, digit_above}
+use Rattle.std.proofs.Common.{arith, rules}
+use Rattle.std.proofs.lemmas.Result.{err_from_is_err_and}
+use Rattle.decimals.specs.Laws.Decimals.{read_none, partly_more, partly_large, partly_all}
 use Rattle.decimals_read.proofs.decimal_of.Goals as goal
 
-pub returns-then-word-eq0 : goal.returns-then-word-eq0
-returns-then-word-eq0 c = none_read _ _ c.if-word-eq0.true
+pub returns-then-not-is_decimal-clause-number : goal.returns-then-not-is_decimal-clause-number
+returns-then-not-is_decimal-clause-number c = read_none c.args.most c.args.word.now (search rules)
 
-pub returns-then-b-lt48 : goal.returns-then-b-lt48
-returns-then-b-lt48 c = let l = c.loop-i in partly_bad l.i (search rules) (digit_below _ c.if-b-lt48.true) l.invariant.1
+pub returns-in_err-number-clause-number : goal.returns-in_err-number-clause-number
+returns-in_err-number-clause-number c =
+    let p = err_from_is_err_and c.from_residual.result c.from_residual.ensures.1 in
+    rw (p.1, p.2) (partly_large c.loop-b.b-index (omega arith) (search rules) c.in_err-number.ensures c.loop-b.invariant)
 
-pub returns-then-b-gt57 : goal.returns-then-b-gt57
-returns-then-b-gt57 c = let l = c.loop-i in partly_bad l.i (search rules) (digit_above _ c.if-b-gt57.true) l.invariant.1
+pub loop-b-preserved : goal.loop-b-preserved
+loop-b-preserved c = partly_more c.loop-b.b-index (omega arith) (search rules) (search rules) c.loop-b.invariant
 
-pub loop-i-preserved : goal.loop-i-preserved
-loop-i-preserved c =
-    let l = c.loop-i in
-    (search rules, partly_more l.i (search rules) (search rules) (search rules) l.invariant.1 c.append-longer.ensures)
-
-pub returns : goal.returns
-returns c = let l = c.loop-i in partly_all l.i (search rules) (search rules) l.invariant.1
+pub returns-clause-number : goal.returns-clause-number
+returns-clause-number c = partly_all c.loop-b.b-index (search rules) (omega arith) c.loop-b.invariant

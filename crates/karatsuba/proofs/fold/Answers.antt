@@ -4,9 +4,9 @@ use Rattle.karatsuba.specs.Laws.Fold.{written_none, written_more, lent}
 use Rattle.karatsuba.proofs.fold.Goals as goal
 
 pub loop-i-init : goal.loop-i-init
-loop-i-init c = (omega arith, written_none _ _)
+loop-i-init c = written_none _ _
 
 pub loop-i-preserved : goal.loop-i-preserved
 loop-i-preserved c =
     let v = c.fold_row in
-    (omega arith, written_more c.loop-i.invariant.1 _ (omega (arith, c.requires.1)) v.auto.out (v.ensures ∙ rw (lent c.loop-i.invariant.1) refl))
+    written_more c.loop-i.invariant _ (omega (arith, c.requires.1)) v.auto.out (v.ensures ∙ rw (lent c.loop-i.invariant) refl)

@@ -6,12 +6,10 @@ use Rattle.karatsuba.proofs.fold_row.Goals as goal
 
 pub loop-g-preserved : goal.loop-g-preserved
 loop-g-preserved c =
-    let x = c.args in (
-      omega arith,
-      fold_next x.work.now x.x x.s c.loop-g.g c.loop-g.invariant.1 c.folded-r.ensures c.put.ensures,
-    )
+    let x = c.args in
+    fold_next x.work.now x.x x.s c.loop-g.g c.loop-g.invariant c.folded-r.ensures c.put.ensures
 
 pub returns : goal.returns
 returns c =
     let e : 16 * c.loop-g.g ≡ 256 = omega arith in
-    put_all c.requires.1 (put_to e c.loop-g.invariant.1)
+    put_all c.requires.1 (put_to e c.loop-g.invariant)

@@ -8,10 +8,10 @@ pub returns : goal.returns
 returns c =
     let w = c.args.work.now in
     let a = c.args.a in
-    let r = c.upper-r in
+    let r = c.product-r in
+    let s = r.ensures.next.size in
     plain_turn r.result (omega arith) plain_none
-    (row_value 1 a 0 w _ _ _ c.requires.blank (omega arith) (simp (length-take, length-drop) (omega (arith, c.requires.operands)))
-    (λ t h. part_at a (a + 32) w (omega arith) (omega arith)) (λ t h. part_at (a + 32) (a + 40) w (omega arith) (omega arith))
-    (λ t h. part_at (a + 40) (a + 48) w (omega arith) (omega arith)) c.lower-low.ensures r.ensures)
-    (omega arith) (omega arith) (put_part 0 16 r.result (omega (arith, r.ensures.size)) refl c.put.ensures)
-    (put_part 16 32 r.result (omega (arith, r.ensures.size)) refl c.put-2.ensures)
+    (row_value 1 a 0 w _ _ c.requires.blank (omega arith) (simp (length-take, length-drop) (omega (arith, c.requires.operands)))
+    (λ t h. part_at a (a + 32) w (omega arith) (omega arith)) (λ t h. part_at (a + 32) (a + 32 + 16) w (omega arith) (omega arith)) r.ensures)
+    (omega arith) (omega arith) (put_part 0 16 r.result (omega (arith, s)) refl c.put.ensures)
+    (put_part 16 32 r.result (omega (arith, s)) refl c.put-2.ensures)

@@ -1,10 +1,7 @@
 -- `karatsuba_base::put` meets its contract: one place a turn.
-use Rattle.std.proofs.Common.{ℕ, ◌-◌, ◌≤◌, length, get_or}
+use Rattle.std.proofs.Common.{ℕ, get_or}
 use Rattle.karatsuba_base.specs.Ensures.{Put}
 use Rattle.karatsuba_base.proofs.put.Given as goal
 
 abbrev pub invariant-loop-k : goal.invariant-loop-k
-invariant-loop-k l = (l.k ≤ length l.r) × Put l.at l.k (λ (i : ℕ). get_or l.r i 0) l.initial.work l.work
-
-abbrev pub decreases-loop-k : goal.decreases-loop-k
-decreases-loop-k l = length l.r - l.k
+invariant-loop-k l = Put l.at l.k (λ (i : ℕ). get_or l.r i 0) l.initial.work l.work

@@ -9,16 +9,16 @@ use Rattle.karatsuba_base.proofs.terms.Goals as goal
 
 pub loop-i-init : goal.loop-i-init
 unfolding sum
-loop-i-init c = (omega arith, same_refl (pos 0))
+loop-i-init c = same_refl (pos 0)
 
 pub loop-i-preserved : goal.loop-i-preserved
 loop-i-preserved c =
     let x = c.args in
     let f : ℕ → ℤ = λ i. reads x.p.now i *ℤ reads x.padded.now (x.t + 8 - i) in
-    (omega arith, terms_more f c.loop-i.i _ _ c.loop-i.invariant.1 refl c.times.ensures c.wrapping_add_u16-s.ensures.value)
+    terms_more f c.loop-i.i _ _ c.loop-i.invariant refl refl refl
 
 pub returns : goal.returns
 unfolding window
 returns c =
     let e : c.loop-i.i ≡ 8 = omega arith in
-    rw e at c.loop-i.invariant.1
+    rw e at c.loop-i.invariant

@@ -1,17 +1,18 @@
 -- Laws of the plain product of 16 coefficients: eight of b at a time, each place a sum over a window of the padded chunk of a row.
-use Rattle.std.specs.Prelude.{◌≡◌, ℕ, ◌+◌, ◌-◌, ◌*◌, ◌%◌, ◌<◌, ◌≤◌, List, length, ℤ, pos, ◌+ℤ◌, ◌*ℤ◌, slice_index, slice_set, refl}
+use Rattle.std.specs.Prelude.{◌≡◌, ℕ, ◌+◌, ◌-◌, ◌*◌, ◌%◌, ◌<◌, ◌≤◌, List, length, ℤ, pos, ◌+ℤ◌, ◌*ℤ◌, slice_index, slice_range, slice_set, refl}
 use Rattle.std.proofs.Common.{inl, inr, sym, ◌∙◌, arith, length-set}
 use Rattle.std.proofs.Math.Path.{ap}
 use Rattle.std.proofs.Math.Decide.{dec_lt}
 use Rattle.std.proofs.Math.ListN.{get_or-eq_default}
+use Rattle.std.proofs.Math.IntN.{+ℤ_idl}
 use Rattle.algebra.specs.Integers.{sum, Same}
 use Rattle.algebra.specs.Halves.{conv, high, window, Degree}
 use Rattle.algebra.proofs.Laws.Sums.{sum_next, sum_cong}
 use Rattle.algebra.proofs.Laws.Residues.{same_eq, same_refl, same_trans, same_add, same_plus, same_times}
 use Rattle.algebra.proofs.Laws.Convolution.{window_first, window_both, window_past}
 use Rattle.karatsuba_base.specs.Layout.{reads, offset, operand, Blank, Apart}
-use Rattle.karatsuba_base.specs.Ensures.{Put, Lower, Upper, Plain}
-use Rattle.karatsuba_base.specs.Laws.Put.{here, else}
+use Rattle.karatsuba_base.specs.Ensures.{Put, Added, Both, Plain}
+use Rattle.karatsuba_base.specs.Laws.Put.{here, else, zeros, zeros_at, part_at}
 use Rattle.karatsuba_base.specs.Laws.Places.{offset_add, offset_first, operand_at, operand_past}
 
 -- one term more
@@ -21,64 +22,50 @@ pub terms_more :
 terms_more f i x y {s} {u} h e p q =
     rw (sum_next i f, e) (same_trans (same_plus s u q) (same_add h (same_times x y p)))
 
-module _ {p padded : List ℕ} where
-  pub lower_none : {r : List ℕ} → length r ≡ 32 → ((t : ℕ) → slice_index r t ≡ 0) → Lower p padded 0 r
-  lower_none l z = record { size = l; value = λ t h. absurd (omega arith); zero = λ t h. z t }
+module _ {p padded sums : List ℕ} {at : ℕ} where
+  pub added_none : length sums ≡ 32 → Added p padded at sums 0 sums
+  added_none l = record { size = l; value = λ t h. absurd (omega arith); before = λ t h. refl; behind = λ t h. refl }
 
-  pub lower_more :
-      {n v : ℕ} {r : List ℕ} → n < 24 → Lower p padded n r → Same 65536 (pos v) (window (reads p) (reads padded) n) → Lower p padded (n + 1) (slice_set r n v)
-  lower_more {n} {v} {r} hn h e = record {
-    size = length-set r n v ∙ h.size;
+  pub added_more :
+      {n x v : ℕ} {r : List ℕ} → at ≤ 8 → n < 24 → Added p padded at sums n r → Same 65536 (pos x) (window (reads p) (reads padded) n) →
+      v ≡ (slice_index sums (at + n) + x) % 65536 → Added p padded at sums (n + 1) (slice_set r (at + n) v)
+  added_more {n} {x} {v} {r} ha hn h e q = record {
+    size = length-set r (at + n) v ∙ h.size;
     value = λ t ht. go t (dec_lt t n) ht;
-    zero = λ t ht. else r n t v (inr (omega arith)) ∙ h.zero t (omega arith);
+    before = λ t ht. else r (at + n) t v (inl (omega arith)) ∙ h.before t ht;
+    behind = λ t ht. else r (at + n) t v (inr (omega arith)) ∙ h.behind t (omega arith);
   }
     where
-      go : (t : ℕ) → Dec (t < n) → t < n + 1 → Same 65536 (reads (slice_set r n v) t) (window (reads p) (reads padded) t)
-      go t (yes l) ht = rw (else r n t v (inl l)) (h.value t l)
-      go t (no q) ht = let d : t ≡ n = omega arith in rw (here r n t v (omega (arith, h.size)) d, d) e
-
-  module _ {low : List ℕ} where
-    pub upper_none : length low ≡ 32 → Upper p padded low 0 low
-    upper_none l = record { size = l; first = λ t h. refl; value = λ t h. absurd (omega arith) }
-
-    pub upper_more :
-        {n v x : ℕ} {r : List ℕ} → n < 24 → Upper p padded low n r → Same 65536 (pos x) (window (reads p) (reads padded) n) →
-        v ≡ (slice_index low (n + 8) + x) % 65536 → Upper p padded low (n + 1) (slice_set r (n + 8) v)
-    upper_more {n} {v} {x} {r} hn h e q = record {
-      size = length-set r (n + 8) v ∙ h.size;
-      first = λ t ht. else r (n + 8) t v (inl (omega arith)) ∙ h.first t ht;
-      value = λ t ht. go t (dec_lt t n) ht;
-    }
-      where
-        go :
-            (t : ℕ) → Dec (t < n) → t < n + 1 →
-            Same 65536 (reads (slice_set r (n + 8) v) (t + 8)) (reads low (t + 8) +ℤ window (reads p) (reads padded) t)
-        go t (yes l) ht = rw (else r (n + 8) (t + 8) v (inl (omega arith))) (h.value t l)
-        go t (no s) ht =
-            let d : t ≡ n = omega arith in
-            rw (d, here r (n + 8) (n + 8) v (omega (arith, h.size)) refl)
-            (same_trans (same_plus (slice_index low (n + 8)) x q) (same_add (same_refl (reads low (n + 8))) e))
+      go :
+          (t : ℕ) → Dec (t < n) → t < n + 1 →
+          Same 65536 (reads (slice_set r (at + n) v) (at + t)) (reads sums (at + t) +ℤ window (reads p) (reads padded) t)
+      go t (yes l) ht = rw (else r (at + n) (at + t) v (inl (omega arith))) (h.value t l)
+      go t (no s) ht =
+          let d : t ≡ n = omega arith in
+          rw (d, here r (at + n) (at + n) v (omega (arith, h.size)) refl)
+          (same_trans (same_plus (slice_index sums (at + n)) x q) (same_add (same_refl (reads sums (at + n))) e))
 
 -- the two together: f in p and q, g between zeros
 module _ {p q padded low r : List ℕ} (f g : ℕ → ℤ) (hf : (i : ℕ) → i < 8 → reads p i ≡ f i) (hh : (i : ℕ) → i < 8 → reads q i ≡ high 8 f i)
     (front : (i : ℕ) → i < 8 → reads padded i ≡ pos 0) (back : (j : ℕ) → reads padded (8 + j) ≡ g j) (zf : Degree 16 f) (zg : Degree 16 g)
-    (l : Lower p padded 24 low) (u : Upper q padded low 24 r) where
+    (l : Added p padded 0 (zeros 32) 24 low) (u : Added q padded 8 low 24 r) where
   in_window : (a : List ℕ) (e : ℕ → ℤ) → ((i : ℕ) → i < 8 → reads a i ≡ e i) → (t : ℕ) → window (reads a) (reads padded) t ≡ window e (reads padded) t
   unfolding window
   in_window a e h t = sum_cong 8 _ _ (λ i hi. ap (λ z. z *ℤ reads padded (t + 8 - i)) (h i hi))
 
   all_low : (t : ℕ) → Dec (t < 24) → Same 65536 (reads low t) (window f (reads padded) t)
-  all_low t (yes h) = rw (← in_window p f hf t) (l.value t h)
+  all_low t (yes h) =
+      let e : 0 + t ≡ t = omega arith in
+      rw (← in_window p f hf t) (rw (e, zeros_at 32 t, +ℤ_idl (window (reads p) (reads padded) t)) at (l.value t h))
   all_low t (no h) =
       let e : 24 + (t - 24) ≡ t = omega arith in
-      same_eq (ap pos (l.zero t (omega arith)) ∙ sym (rw e at (window_past g (reads padded) back zg f (t - 24))))
+      same_eq (ap pos (l.behind t (omega arith) ∙ zeros_at 32 t) ∙ sym (rw e at (window_past g (reads padded) back zg f (t - 24))))
 
   pub base_value : (t : ℕ) → t < 32 → Dec (t < 8) → Same 65536 (reads r t) (conv f g t)
-  base_value t h (yes s) = rw (u.first t s, window_first g (reads padded) back front f t s) (all_low t (dec_lt t 24))
+  base_value t h (yes s) = rw (u.before t s, window_first g (reads padded) back front f t s) (all_low t (dec_lt t 24))
   base_value t h (no s) =
-      let d : t ≡ t - 8 + 8 = omega arith in
       let e : t ≡ 8 + (t - 8) = omega arith in
-      same_trans (rw (← d) at (u.value (t - 8) (omega arith)))
+      same_trans (rw (← e) at (u.value (t - 8) (omega arith)))
       (rw (in_window q (high 8 f) hh (t - 8)) (same_trans (same_add (all_low t (dec_lt t 24)) (same_refl _))
       (same_eq (rw (← e) at (sym (window_both g (reads padded) back front f zf (t - 8)))))))
 
@@ -109,16 +96,19 @@ factor_at rows a w p o ho e t h =
 
 -- the product of row i and b, from their parts
 pub row_value :
-    (rows a i : ℕ) (w p q padded : List ℕ) {low r : List ℕ} → Blank (24 * (rows + 1)) w a → i < rows → length padded ≡ 32 →
+    (rows a i : ℕ) (w b padded : List ℕ) {r : List ℕ} → Blank (24 * (rows + 1)) w a → i < rows → length padded ≡ 32 →
     ((t : ℕ) → t < 32 → slice_index padded t ≡ slice_index w (a + 24 * i + t)) →
-    ((t : ℕ) → t < 8 → slice_index p t ≡ slice_index w (a + 24 * rows + 8 + (0 + t))) →
-    ((t : ℕ) → t < 8 → slice_index q t ≡ slice_index w (a + 24 * rows + 8 + (8 + t))) → Lower p padded 24 low → Upper q padded low 24 r →
+    ((t : ℕ) → t < 16 → slice_index b t ≡ slice_index w (a + 24 * rows + 8 + t)) → Both b padded r →
     (t : ℕ) → t < 32 → Same 65536 (reads r t) (conv (operand rows 1 w a rows) (operand rows 1 w a i) t)
-row_value rows a i w p q padded z hi lr er ep eq l u t h =
+row_value rows a i w b padded z hi lr er eb x t h =
     base_value (operand rows 1 w a rows) (operand rows 1 w a i)
-    (λ k hk. let e : 0 + k ≡ k = omega arith in rw e at (factor_at rows a w p 0 (omega arith) ep k hk)) (factor_at rows a w q 8 (omega arith) eq)
+    (λ k hk. let e : 0 + k ≡ k = omega arith in rw e at (factor 0 8 (omega arith) refl k hk)) (factor 8 16 (omega arith) refl)
     (padded_front rows a i w z hi padded lr er) (padded_back rows a i w z hi padded lr er) (operand_past rows 1 w a rows) (operand_past rows 1 w a i)
-    l u t h (dec_lt t 8)
+    x.first x.next t h (dec_lt t 8)
+  where
+    factor : (s e : ℕ) → e ≤ 16 → e ≡ s + 8 → (k : ℕ) → k < 8 → reads (slice_range b s e) k ≡ operand rows 1 w a rows (s + k)
+    factor s e l d =
+        factor_at rows a w (slice_range b s e) s (omega arith) (λ j hj. part_at s e b (omega arith) refl ∙ eb (s + j) (omega arith))
 
 -- the rows, one after another
 module _ {rows a out : ℕ} {w : List ℕ} where

@@ -92,7 +92,7 @@ module _ {rows chunks a out free : ℕ} {w : List ℕ} (r : SplitScratch rows ch
       scratch_left = omega (arith, r.left, twice, x.even, same)
 
       pub sum_scratch : SumScratch a (a + 24 * (rows * c + c)) free (24 * (rows * c + c)) size
-      sum_scratch = record { whole = omega arith; first = omega (arith, fields); second = omega (arith, fields); left = omega (arith, scratch_left, some, least) }
+      sum_scratch = record { first = omega (arith, fields); second = omega (arith, fields); left = omega (arith, scratch_left, some, least) }
 
       pub join_scratch : JoinScratch out free (16 * (rows * c)) size
       join_scratch = record { whole = omega arith; apart = omega (arith, fields); left = omega (arith, scratch_left, fields, some, least) }

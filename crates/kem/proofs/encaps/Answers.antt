@@ -1,23 +1,13 @@
--- `kem::encaps` meets its contract: an answer of 0 gives `encaps_with` what it requires, and any other leaves the two outputs alone.
-use native.Mathlib.Omega.{arith}
-use borrow.Author.Rules.{rules}
-use Rattle.questions.specs.Laws.Answers.{refused}
-use Rattle.sets.specs.Laws.Sets.{few_polynomials}
-use Rattle.scheme_questions.specs.Laws.Lengths.{encaps_lengths}
-use Rattle.kem.specs.Laws.Kem.{encaps_done}
+-- `kem::encaps` meets its contract: the steps of the definition, one after another.
+use mathlib.Core.Path.{refl}
+use Rattle.kdf.specs.Laws.Kdf.{coins_part}
+use Rattle.kem.specs.Laws.Kem.{encaps_steps, encaps_done}
 use Rattle.kem.proofs.encaps.Goals as goal
 
-pub returns-then-r-ne0 : goal.returns-then-r-ne0
-returns-then-r-ne0 c = search refused
-
-pub overflow_mul-n : goal.overflow_mul-n
-overflow_mul-n c = omega (arith, few_polynomials)
-
-pub slice_bounds-secret-end : goal.slice_bounds-secret-end
-slice_bounds-secret-end c = omega (arith, few_polynomials)
-
-pub encaps_with-requires : goal.encaps_with-requires
-encaps_with-requires c = record { fits = search encaps_lengths; secret_long = search rules }
-
 pub returns : goal.returns
-returns c = search encaps_done
+returns c =
+    let of_set = c.in_ok-p.ensures in
+    encaps_done c.args.set of_set.params refl _ _ _ _ of_set.answer
+    (encaps_steps _ _ _ _ of_set.fits.ss_long c.hash256-message.ensures c.hash256-hash.ensures c.key_and_coins-kr.ensures
+    (coins_part _ c.key_and_coins-kr.ensures) refl c.encrypt_with.ensures c.secret_under-shared.ensures
+    c.copy_at.ensures)

@@ -4,4 +4,4 @@ use Rattle.keys.proofs.public_key_into.Goals as goal
 
 pub returns : goal.returns
 returns c =
-    public_steps c.args.l _ _ _ c.requires.pk_long c.shake128_into.ensures c.vector_into.ensures c.copy_at.ensures
+    public_steps c.args.l _ _ _ c.requires.pk_long c.shake128.ensures c.vector_into.ensures c.copy_at.ensures

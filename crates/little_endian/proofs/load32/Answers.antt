@@ -1,7 +1,7 @@
 -- `little_endian::load32` meets its contract: the four bytes are the digits of the number.
 use Prim.Native.Nat.{ℕ, suc, ◌+◌, ◌*◌, ◌≤◌}
 use mathlib.Core.List.{List}
-use mathlib.Core.Path.{◌≡◌, sym, ◌∙◌}
+use mathlib.Core.Path.{◌≡◌}
 use native.Mathlib.Omega.{arith}
 use native.Mathlib.Numerals.{add-one, add-two, add-three}
 use lib.ListN.{length, get_or, take, drop}
@@ -26,4 +26,4 @@ word_is bs i h =
     (omega arith)
 
 pub returns : goal.returns
-returns c = (c.joined.ensures.0 ∙ sym (word_is _ _ c.requires), c.joined.ensures.1)
+returns c = (omega (arith, word_is c.args.bytes.now c.args.at (omega arith)), omega arith)

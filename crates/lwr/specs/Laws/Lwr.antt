@@ -9,7 +9,6 @@ use Rattle.questions.specs.Laws.Bounds.{all_below_at}
 use Rattle.algebra.specs.Ring.{nat, residues, blocks}
 use Rattle.algebra.proofs.Laws.Vectors.{blocks_append, length_blocks}
 use Rattle.packing.specs.Packing.{packed}
-use Rattle.packing_vector.specs.Requires.{PlacesLengths}
 use Rattle.packing_vector.specs.Laws.Places.{packed_more}
 use Rattle.packing.specs.Laws.Polynomials.{length_packed}
 use Rattle.rounding.specs.Rounding.{round}
@@ -40,20 +39,6 @@ module _ (t : Bool) (l : ℕ) (seed : List ℕ) (s : List ℤ) where
 length_rounded : (n : ℕ) (f : ℕ → List ℕ) → ((k : ℕ) → length (f k) ≡ 256) → length (map round (blocks n f)) ≡ 256 * n
 length_rounded n f long = length-map (blocks n f) round ∙ length_blocks 256 n f (λ k h. long k)
 
--- they go to their places
-pub rows_lengths :
-    (l : ℕ) (M : ℕ → ℕ → List ℕ) (s : List ℤ) (first n place out : ℕ) {x r : List ℕ} → x ≡ blocks n (λ k. matrix_row l M s (first + k)) →
-    r ≡ map round x → place + 320 * n ≤ out → PlacesLengths 10 n r place out
-rows_lengths l M s first n place out p q lengths =
-    rw (q, p)
-    (record {
-      least = omega arith;
-      most = omega arith;
-      polynomials = length_rounded n _ (λ k. length_row l M s (first + k));
-      below = all_below_at 1024 _ (round_below (blocks n (λ k. matrix_row l M s (first + k))));
-      fits = omega arith;
-    })
-
 -- n rows more, behind those that stand at the front of an output
 pub rows_more :
     (l : ℕ) (M : ℕ → ℕ → List ℕ) (s : List ℤ) (i n : ℕ) (old : List ℕ) {mid out : List ℕ} → 320 * (i + n) ≤ length old →
@@ -70,11 +55,3 @@ rows_more l M s i n old fits p q =
     (rw zero-add at
     (packed_more 10 0 i a b old (omega arith) la (all_below_at 1024 a (round_below (blocks i f)))
     (rw (length_packed 10 n (omega arith) b lb) (omega arith))))
-
--- all rows, of the matrix that a seed gives
-pub vector_whole :
-    (t : Bool) (l : ℕ) (seed : List ℕ) (s : List ℤ) (old : List ℕ) {A out : List ℕ} → A ≡ matrix l seed →
-    out ≡ placed 0 (packed 10 (map round (blocks l (matrix_row l (side t l A) s)))) old →
-    out ≡ placed 0 (packed 10 (rounded_vector t l seed s)) old
-unfolding rounded_vector matrix_vector
-vector_whole t l seed s old a o = o ∙ rw a

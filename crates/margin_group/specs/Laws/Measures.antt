@@ -2,7 +2,8 @@
 use Rattle.std.specs.Prelude.{ℕ, ◌+◌, ◌*◌, ◌-◌, ◌/◌, ◌<◌, List, ◌≡◌, ℤ, length, take, drop}
 use Rattle.std.proofs.Common.{ap, ◌∙◌, arith}
 use Rattle.std.proofs.lemmas.List.{length-map}
-use Rattle.lists.proofs.Laws.Parts.{first_part, last_part}
+use Rattle.std.proofs.Math.Path.{refl}
+use Rattle.lists.proofs.Laws.Parts.{last_part}
 use Rattle.sets.specs.declared.Params.{Params}
 use Rattle.sets.specs.Sets.{added}
 use Rattle.sets.specs.Requires.{IsSet}
@@ -26,18 +27,17 @@ use Rattle.margin_group.specs.Margin.{received}
 
 module _ (p : Params) (pk coins : List ℕ) where
   pub norm_steps :
-      (secret_seed : List ℕ) {A : List ℕ} {s t : List ℤ} {r : ℕ} → length pk ≡ p.pk →
-      A ≡ matrix p.l (take (p.pk - 320 * p.l) (drop (320 * p.l) pk)) →
+      (secret_seed : List ℕ) {A : List ℕ} {s t : List ℤ} {r : ℕ} → A ≡ matrix p.l (take (length pk - 320 * p.l) (drop (320 * p.l) pk)) →
       s ≡ secret p.l p.mu secret_seed → t ≡ secret p.l p.mu coins → r ≡ norm (noise 256 p.l (entry p.l A) (poly s) (poly t)) →
       r ≡ norm (noise 256 p.l (entry p.l (matrix p.l (drop (320 * p.l) pk))) (poly (secret p.l p.mu secret_seed))
       (poly (secret p.l p.mu coins)))
-  norm_steps secret_seed long ea es et e = rw (ea, es, et, last_part (320 * p.l) p.pk pk long) at e
+  norm_steps secret_seed ea es et e = rw (ea, es, et, last_part (320 * p.l) (length pk) pk refl) at e
 
   pub wrong_steps :
       (m sk : List ℕ) {ct received : List ℕ} {r : ℕ} → ct ≡ encrypted p pk m coins →
-      received ≡ decrypted p (take (416 * p.l - 0) (drop 0 sk)) ct → r ≡ differing (unpacked 1 m) (unpacked 1 received) →
+      received ≡ decrypted p (take (416 * p.l) sk) ct → r ≡ differing (unpacked 1 m) (unpacked 1 received) →
       r ≡ differing (unpacked 1 m) (unpacked 1 (decrypted p (take (416 * p.l) sk) (encrypted p pk m coins)))
-  wrong_steps m sk ec er e = rw (er, ec, first_part (416 * p.l) sk) at e
+  wrong_steps m sk ec er e = rw (er, ec) at e
 
 module _ (p : Params) (is_set : IsSet p) where
   -- the norm of the noise of secrets from seeds is less than 32768

@@ -1,15 +1,11 @@
 -- `margin_noise::errors_in` meets its contract: the places passed hold errors, the others are as they were.
-use Rattle.std.proofs.Common.{◌≡◌, ℕ, ◌-◌, ◌≤◌, length, get_or, pos}
-use Rattle.lists.proofs.Laws.Fill.{Filled}
+use Rattle.std.proofs.Common.{◌≡◌, ℕ, ◌≤◌, take, map, pos, get_or}
 use Rattle.algebra.specs.Integers.{modℤ}
 use Rattle.noise.specs.Noise.{error}
 use Rattle.margin_noise.proofs.errors_in.Given as goal
 
-abbrev pub word : ℕ → ℕ
-word x = modℤ (error (pos x)) 65536
-
-abbrev pub invariant-loop-k : goal.invariant-loop-k
-invariant-loop-k l = Filled (length l.initial.exact) l.exact l.k (λ i. word (get_or l.initial.exact i 0)) × ((i : ℕ) → l.k ≤ i → get_or l.exact i 0 ≡ get_or l.initial.exact i 0)
-
-abbrev pub decreases-loop-k : goal.decreases-loop-k
-decreases-loop-k l = length l.initial.exact - l.k
+abbrev pub invariant-loop-x : goal.invariant-loop-x
+invariant-loop-x l = record {
+  passed : take l.x-index l.exact ≡ map (λ (x : ℕ). modℤ (error (pos x)) 65536) (take l.x-index l.initial.exact);
+  left : (k : ℕ) → l.x-index ≤ k → get_or l.exact k 0 ≡ get_or l.initial.exact k 0;
+}

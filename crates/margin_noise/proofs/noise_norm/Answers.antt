@@ -1,13 +1,9 @@
--- `margin_noise::noise_norm` meets its contract: the scratch that it lends is long enough.
-use Rattle.std.proofs.Common.{rules}
+-- `margin_noise::noise_norm` meets its contract: the steps of the definition, one after another.
+use Rattle.margin_noise.specs.Laws.Exact.{noise_steps}
 use Rattle.margin_noise.proofs.noise_norm.Goals as goal
 
-pub noise_norm_with-requires : goal.noise_norm_with-requires
-noise_norm_with-requires c =
-    record {
-      fits = c.requires;
-      s_words_long = search rules;
-      t_words_long = search rules;
-      cut_long = search rules;
-      work_long = search rules;
-    }
+pub returns : goal.returns
+returns c =
+    let lengths = c.requires in
+    noise_steps _ lengths.most _ _ _ lengths.s_small lengths.t_small lengths.sums c.words_into.ensures c.words_into-2.ensures
+    c.product-left.ensures c.product-right.ensures c.norm_of.ensures

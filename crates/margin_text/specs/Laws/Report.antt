@@ -6,11 +6,11 @@ use Rattle.decimals.specs.Decimals.{digits_within, decimal}
 use Rattle.margin_group.specs.Margin.{groups, smallest, total, least, wrong}
 use Rattle.margin_group.specs.Laws.Enough.{cases_enough, rest_enough, least_enough, wrong_enough}
 use Rattle.margin_line.specs.Line.{ascii, least_text, line}
-use Rattle.margin_text.specs.Report.{figures, report_of}
+use Rattle.margin_text.specs.Report.{header, figures, report_of}
 
 -- "The single input byte 02 prints that header and `2 0 none 0 0`"
 pub computed : report_of (2 ∷ []) ≡ ascii "set cases least wrong rest\n2 0 none 0 0\n"
-unfolding report_of figures line least_text ascii from params_of least wrong groups smallest total decimal digits_within
+unfolding report_of figures header line least_text ascii from params_of least wrong groups smallest total decimal digits_within
 computed = refl
 
 -- "After 4096 groups it reads no further": nothing is lost by that

@@ -1,20 +1,19 @@
 -- `margin_total::totals_of` meets its contract: one group a turn.
-use native.Mathlib.Omega.{arith}
-use Rattle.margin_total.specs.Laws.Groups.{partly_none, partly_more, partly_all}
+use Rattle.std.proofs.Common.{ℕ, ◌≡◌, ◌∙◌, arith}
+use Rattle.std.specs.Ordering.{ord_max, nat_cmp}
+use Rattle.std.proofs.lemmas.Grind.{common_steps}
+use Prim.Native.Nat.{max}
+use Rattle.margin_total.specs.Laws.Groups.{partly_more, partly_all}
 use Rattle.margin_total.proofs.totals_of.Goals as goal
 
-pub loop-i-init : goal.loop-i-init
-loop-i-init c = (c.cases_of-cases.ensures, partly_none _ _)
-
-pub overflow_add-wrong : goal.overflow_add-wrong
-overflow_add-wrong c =
-    let loop = c.loop-i in
-    omega (arith, loop.invariant.0, loop.invariant.1.within, loop.invariant.1.few, c.figures_of-f.ensures.wrong_few)
+max_is : (x y : ℕ) → ord_max nat_cmp x y ≡ max x y
+max_is x y = grind (arith, common_steps)
 
 pub loop-i-preserved : goal.loop-i-preserved
 loop-i-preserved c =
     let loop = c.loop-i in
-    (loop.invariant.0, partly_more _ _ (omega arith) loop.invariant.1 c.figures_of-f.ensures c.larger-next.ensures)
+    let larger = c.max-norm.ensures ∙ max_is loop.norm c.figures_of-figures.result.norm in
+    (loop.invariant.0, partly_more _ _ (omega arith) loop.invariant.1 c.figures_of-figures.ensures larger)
 
 pub returns : goal.returns
-returns c = let loop = c.loop-i in partly_all _ _ loop.invariant.0 (omega arith) loop.invariant.1
+returns c = partly_all _ _ c.loop-i.invariant.0 (omega arith) c.loop-i.invariant.1

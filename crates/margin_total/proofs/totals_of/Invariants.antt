@@ -1,5 +1,4 @@
 -- `margin_total::totals_of` meets its contract: one group a turn.
-use Prim.Native.Nat.{◌-◌}
 use mathlib.Core.Path.{◌≡◌}
 use Rattle.margin_group.specs.Margin
 use Rattle.margin_total.specs.Laws.Groups.{Partly}
@@ -7,6 +6,3 @@ use Rattle.margin_total.proofs.totals_of.Given as goal
 
 abbrev pub invariant-loop-i : goal.invariant-loop-i
 invariant-loop-i l = (l.cases ≡ Margin.cases l.bytes) × Partly l.p l.bytes l.i l.norm l.wrong
-
-abbrev pub decreases-loop-i : goal.decreases-loop-i
-decreases-loop-i l = l.cases - l.i

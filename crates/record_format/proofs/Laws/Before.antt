@@ -1,24 +1,20 @@
 -- Laws of records from before A7: every record that was accepted then reads to the same entry as it did, and an entry that could be
 -- written then has the same record.
-use Rattle.std.specs.Prelude.{ℕ, zero, suc, ◌+◌, ◌<◌, Bool, true, false, cond, not, ◌&&◌, List, [], ◌∷◌, ◌≡◌, eqb, ltb, length}
-use Rattle.std.proofs.Math.Option.{Option, none, some, get_or, or_else}
+use Rattle.std.specs.Prelude.{ℕ, zero, suc, ◌+◌, ◌<◌, Bool, true, false, cond, not, ◌&&◌, Option, None, Some, unwrap_or, Result, Ok, List, [], ◌∷◌, ◌≡◌, eqb, ltb, length}
+use Rattle.std.specs.Bool.{then_some}
+use Rattle.std.specs.Option.{option_or}
 use Rattle.std.proofs.Math.Path.{refl, sym}
 use Rattle.std.proofs.Common.{ap, ◌∙◌, mod-eq_of_lt, arith, ltb-true, lt-ltb, le-ltb}
 use Rattle.std.proofs.Math.Nat.{add-zero}
 use Rattle.lists.specs.Numbers.{number, digits, digit}
 use Rattle.lists.proofs.Laws.Booleans.{and_left, and_right, and_false}
+use Rattle.questions.specs.declared.Refusal.{Refusal}
 use Rattle.questions.specs.Answers.{ask, earliest}
 use Rattle.questions.specs.Laws.Answers.{all_yes}
 use Rattle.sets.specs.Sets.{params_of, known}
 use Rattle.sets.specs.Laws.Sets.{unknown_from}
-use Rattle.record_format.specs.declared.Door.{Door}
-use Rattle.record_format.specs.declared.Door.TheVariants as door
-use Rattle.record_format.specs.declared.Time.{Time}
-use Rattle.record_format.specs.declared.Time.TheVariants as time
 use Rattle.record_format.specs.declared.Head.{Head}
-use Rattle.record_format.specs.declared.Read.{Read}
-use Rattle.record_format.specs.declared.Read.TheVariants.{Entry}
-use Rattle.record_format.specs.Records.{fields, stands, taken_by, head_length, given, door_of, time_of, bits_of, laid}
+use Rattle.record_format.specs.Records.{fields, stands, taken_by, head_length, bits_of, laid}
 use Rattle.record_format.specs.Records.{record_of, map_in, head_in, ciphertext_in, is_map, read_answer}
 use Rattle.record_format.specs.Before as before
 use Rattle.record_format.specs.Promises.{Retrieved}
@@ -34,8 +30,8 @@ number_is [] = refl
 number_is (b ∷ bs) = rw (number_is bs)
 
 -- what is made of a field, where its bit stands and where it does not
-field_is : {A : Type 0} (f : Option ℕ → A) (b : Bool) {x y : ℕ} → x ≡ y → cond b (f (some x)) (f none) ≡ f (given b y)
-field_is f true e = ap (λ n. f (some n)) e
+field_is : {A : Type 0} (f : Option ℕ → A) (b : Bool) {x y : ℕ} → x ≡ y → cond b (f (Some x)) (f None) ≡ f (then_some b y)
+field_is f true e = ap (λ n. f (Some n)) e
 field_is f false e = refl
 
 -- a set byte of 1 to 3 has its ciphertext's length, and any other is refused with 1
@@ -57,12 +53,11 @@ module _ (s : List ℕ) (h : before.map_in s < 16) where
   narrow = no_wide s h
 
   pub head_as_before : head_in s ≡ before.head_in s
-  unfolding or_else
   head_as_before =
       let m = map_in s in
-      let door = field_is (λ o. door_of (or_else o none)) (stands m 0) (number_is _) in
-      let time = field_is time_of (stands m 1) (number_is _) in
-      let set = field_is (λ o. get_or o 0) (stands m 2) (number_is _) in
+      let door = field_is (λ o. option_or o None) (stands m 0) (number_is _) in
+      let time = field_is (λ o. o) (stands m 1) (number_is _) in
+      let set = field_is (λ o. unwrap_or o 0) (stands m 2) (number_is _) in
       sym (head_steps s refl refl (sym narrow) refl (rw narrow door) (rw add-zero time) (rw add-zero set))
 
   length_as_before : head_length (map_in s) ≡ before.ciphertext_at (map_in s)
@@ -97,22 +92,22 @@ read_as_before s ct z =
 
 -- the same of a call that keeps its promise
 pub call_as_before :
-    (s old : List ℕ) {r : Read} {ct' : List ℕ} → before.read_answer s (length old) ≡ 0 → Retrieved s old r ct' →
-    (r ≡ Entry (before.head_in s)) × (ct' ≡ before.ciphertext_in s)
+    (s old : List ℕ) {r : Result Head Refusal} {ct' : List ℕ} → before.read_answer s (length old) ≡ 0 → Retrieved s old r ct' →
+    (r ≡ Ok (before.head_in s)) × (ct' ≡ before.ciphertext_in s)
 call_as_before s old {r} z g =
     let w = read_as_before s (length old) z in
-    let e : r ≡ Entry (before.head_in s) = given_back s old g ∙ rw (w.0, w.1) in
+    let e : r ≡ Ok (before.head_in s) = given_back s old g ∙ rw (w.0, w.1) in
     (e, g.writes ∙ rw e w.2)
 
 -- an entry that A1 has, its door missing or of two bytes and its set 1 to 3, is written as before
 written_parts :
-    (d : Door) (t : Time) (n : ℕ) (c : List ℕ) → before.is_door d ≡ true → n < 256 →
+    (d t : Option ℕ) (n : ℕ) (c : List ℕ) → before.is_door d ≡ true → n < 256 →
     let h : Head = record { door = d; time = t; set = n } in record_of h c ≡ before.record_of h c
 unfolding record_of fields bits_of laid digits before.record_of before.bytes
-written_parts door.Missing time.Missing n c e l = rw (mod-eq_of_lt l)
-written_parts door.Missing (time.Number y) n c e l = rw (mod-eq_of_lt l)
-written_parts (door.Number x) time.Missing n c e l = let f = is_short x (ltb-true x 65536 e) in rw (f.0, f.1, mod-eq_of_lt l)
-written_parts (door.Number x) (time.Number y) n c e l = let f = is_short x (ltb-true x 65536 e) in rw (f.0, f.1, mod-eq_of_lt l)
+written_parts None None n c e l = rw (mod-eq_of_lt l)
+written_parts None (Some y) n c e l = rw (mod-eq_of_lt l)
+written_parts (Some x) None n c e l = let f = is_short x (ltb-true x 65536 e) in rw (f.0, f.1, mod-eq_of_lt l)
+written_parts (Some x) (Some y) n c e l = let f = is_short x (ltb-true x 65536 e) in rw (f.0, f.1, mod-eq_of_lt l)
 
 pub written_as_before :
     (h : Head) (c : List ℕ) → before.is_door h.door ≡ true → before.is_set h.set ≡ true → record_of h c ≡ before.record_of h c

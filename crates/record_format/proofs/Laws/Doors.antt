@@ -1,26 +1,27 @@
 -- Laws of a door in its two fields, the short one and the wide one: its number says which of them has it.
-use Rattle.std.specs.Prelude.{ℕ, zero, suc, ◌/◌, ◌<◌, ◌≤◌, true, not, ◌&&◌, ◌≡◌, refl, eqb, ltb, leb}
+use Rattle.std.specs.Prelude.{ℕ, zero, suc, ◌/◌, ◌<◌, ◌≤◌, true, not, ◌&&◌, Option, None, Some, unwrap_or, ◌≡◌, refl, eqb, ltb, leb}
 use Rattle.std.proofs.lemmas.Bool.{false≢true, not-true, lt-leb}
-use Rattle.std.proofs.Math.Option.{Option, none, some, get_or, or_else}
+use Rattle.std.specs.Bool.{then_some}
+use Rattle.std.specs.Option.{option_or}
 use Rattle.std.proofs.Math.Decide.{dec_lt}
 use Rattle.std.proofs.Common.{arith, ltb-false, lt-ltb, le-ltb, le-leb}
-use Rattle.record_format.specs.Records.{given, wide_from, short_door, wide_door, Fits}
+use Rattle.record_format.specs.Records.{wide_from, short_door, wide_door, Fits}
 
 -- a short door, and a wide one
-pub is_short : (x : ℕ) → x < wide_from → (short_door (some x) ≡ some x) × (wide_door (some x) ≡ none)
+pub is_short : (x : ℕ) → x < wide_from → (short_door (Some x) ≡ Some x) × (wide_door (Some x) ≡ None)
 is_short x h = (rw (lt-ltb x wide_from h), rw (lt-leb wide_from x h))
 
-pub is_wide : (x : ℕ) → wide_from ≤ x → (short_door (some x) ≡ none) × (wide_door (some x) ≡ some x)
+pub is_wide : (x : ℕ) → wide_from ≤ x → (short_door (Some x) ≡ None) × (wide_door (Some x) ≡ Some x)
 is_wide x h = (rw (le-ltb x wide_from h), rw (le-leb wide_from x h))
 
 -- what holds of a missing door, of each short one and of each wide one, holds of every door and its two fields
 pub by_width :
-    (P : Option ℕ → Option ℕ → Option ℕ → Type 0) → P none none none → ((x : ℕ) → x < wide_from → P (some x) (some x) none) →
-    ((x : ℕ) → wide_from ≤ x → P (some x) none (some x)) → (o : Option ℕ) → P o (short_door o) (wide_door o)
-by_width P n s w none = n
-by_width P n s w (some x) = go (dec_lt x wide_from)
+    (P : Option ℕ → Option ℕ → Option ℕ → Type 0) → P None None None → ((x : ℕ) → x < wide_from → P (Some x) (Some x) None) →
+    ((x : ℕ) → wide_from ≤ x → P (Some x) None (Some x)) → (o : Option ℕ) → P o (short_door o) (wide_door o)
+by_width P n s w None = n
+by_width P n s w (Some x) = go (dec_lt x wide_from)
   where
-    go : Dec (x < wide_from) → P (some x) (short_door (some x)) (wide_door (some x))
+    go : Dec (x < wide_from) → P (Some x) (short_door (Some x)) (wide_door (Some x))
     go (yes h) = let f = is_short x h in rw (f.0, f.1) (s x h)
     go (no h) =
         let l : wide_from ≤ x = omega arith in
@@ -28,9 +29,8 @@ by_width P n s w (some x) = go (dec_lt x wide_from)
         rw (f.0, f.1) (w x l)
 
 -- the one that is there is the door
-pub door_whole : (o : Option ℕ) → or_else (short_door o) (wide_door o) ≡ o
-unfolding or_else
-door_whole = by_width (λ o s w. or_else s w ≡ o) refl (λ x h. refl) (λ x h. refl)
+pub door_whole : (o : Option ℕ) → option_or (short_door o) (wide_door o) ≡ o
+door_whole = by_width (λ o s w. option_or s w ≡ o) refl (λ x h. refl) (λ x h. refl)
 
 -- each fits its field
 pub doors_fit : (o : Option ℕ) → Fits 4 o → Fits 2 (short_door o) × Fits 4 (wide_door o)
@@ -39,9 +39,8 @@ doors_fit = by_width (λ o s w. Fits 4 o → Fits 2 s × Fits 4 w) (λ f. (tt, t
 -- what a reader takes from the two fields, by their bits b and c, is written into them again
 pub doors_again :
     (b c x y : ℕ) → b < 2 → c < 2 → not (eqb b 1 && eqb c 1) ≡ true → (b ≡ 1 → x < wide_from) →
-    let o = or_else (given (eqb b 1) x) (given (eqb c 1) y) in
-    not (eqb c 1 && ltb (get_or o 0) wide_from) ≡ true → (short_door o ≡ given (eqb b 1) x) × (wide_door o ≡ given (eqb c 1) y)
-unfolding or_else
+    let o = option_or (then_some (eqb b 1) x) (then_some (eqb c 1) y) in
+    not (eqb c 1 && ltb (unwrap_or o 0) wide_from) ≡ true → (short_door o ≡ then_some (eqb b 1) x) × (wide_door o ≡ then_some (eqb c 1) y)
 doors_again zero zero x y hb hc h l w = (refl, refl)
 doors_again (suc zero) zero x y hb hc h l w = is_short x (l refl)
 doors_again zero (suc zero) x y hb hc h l w = is_wide y (ltb-false y wide_from (not-true (ltb y wide_from) w))

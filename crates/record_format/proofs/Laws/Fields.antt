@@ -1,18 +1,18 @@
 -- Laws of the fields that are numbers, for every list of fields: what was laid out is read back, and what was read is laid out as it was.
-use Rattle.std.specs.Prelude.{ℕ, zero, suc, ◌*◌, ◌/◌, ◌^◌, ◌<◌, ◌≤◌, List, [], ◌∷◌, ◌++◌, ◌≡◌, refl, eqb, length, take, drop}
+use Rattle.std.specs.Prelude.{ℕ, zero, suc, ◌*◌, ◌/◌, ◌^◌, ◌<◌, ◌≤◌, Option, None, Some, List, [], ◌∷◌, ◌++◌, ◌≡◌, refl, eqb, length, take, drop}
 use Rattle.std.proofs.Common.{append_assoc, sym, ap, ap₂, ◌∙◌, mod-lt, zero-mul, one-mul, arith, length-append, length-drop, take_at, drop_at, take-add, length-take-le}
-use Rattle.std.proofs.Math.Option.{Option, none, some}
+use Rattle.std.specs.Bool.{then_some}
 use Rattle.lists.specs.Numbers.{number, digits, digit, Below}
 use Rattle.lists.proofs.Laws.Numbers.{length_digits, below_take, below_drop, digits_number, number_digits}
-use Rattle.record_format.specs.Records.{Field, fields, taken, taken_by, head_length, bytes_of, laid, given, numbers_in, Fits}
+use Rattle.record_format.specs.Records.{Field, fields, taken, taken_by, head_length, bytes_of, laid, numbers_in, Fits}
 
 -- the bits of a map say which numbers are there
 abbrev pub Agree : ℕ → List Field → List (Option ℕ) → Type 0
 Agree m [] [] = Unit {0}
 Agree m [] (x ∷ xs) = ⊥
 Agree m (f ∷ fs) [] = ⊥
-Agree m (f ∷ fs) (none ∷ xs) = (digit 2 m f.0 ≡ 0) × Agree m fs xs
-Agree m (f ∷ fs) (some x ∷ xs) = (digit 2 m f.0 ≡ 1) × Agree m fs xs
+Agree m (f ∷ fs) (None ∷ xs) = (digit 2 m f.0 ≡ 0) × Agree m fs xs
+Agree m (f ∷ fs) (Some x ∷ xs) = (digit 2 m f.0 ≡ 1) × Agree m fs xs
 
 -- each number fits its field
 abbrev pub FitAll : List Field → List (Option ℕ) → Type 0
@@ -26,8 +26,8 @@ unfolding taken_by laid
 length_laid m [] [] h = refl
 length_laid m [] (x ∷ xs) h = absurd h
 length_laid m (f ∷ fs) [] h = absurd h
-length_laid m (f ∷ fs) (none ∷ xs) h = rw (h.0, zero-mul) (omega (arith, length_laid m fs xs h.1))
-length_laid m (f ∷ fs) (some x ∷ xs) h =
+length_laid m (f ∷ fs) (None ∷ xs) h = rw (h.0, zero-mul) (omega (arith, length_laid m fs xs h.1))
+length_laid m (f ∷ fs) (Some x ∷ xs) h =
     rw (h.0, one-mul, length-append, length_digits) (omega (arith, length_laid m fs xs h.1))
 
 -- and are read back, whatever follows
@@ -37,8 +37,8 @@ unfolding numbers_in laid
 numbers_laid m [] [] rest h w = refl
 numbers_laid m [] (x ∷ xs) rest h w = absurd h
 numbers_laid m (f ∷ fs) [] rest h w = absurd h
-numbers_laid m (f ∷ fs) (none ∷ xs) rest h w = rw (h.0, zero-mul) (ap (λ l. none ∷ l) (numbers_laid m fs xs rest h.1 w.1))
-numbers_laid m (f ∷ fs) (some x ∷ xs) rest h w =
+numbers_laid m (f ∷ fs) (None ∷ xs) rest h w = rw (h.0, zero-mul) (ap (λ l. None ∷ l) (numbers_laid m fs xs rest h.1 w.1))
+numbers_laid m (f ∷ fs) (Some x ∷ xs) rest h w =
     let long = length_digits 256 f.1 x in
     rw (
       h.0,
@@ -48,12 +48,12 @@ numbers_laid m (f ∷ fs) (some x ∷ xs) rest h w =
       drop_at (digits 256 f.1 x) (laid fs xs ++ rest) f.1 long,
       number_digits 256 f.1 x (omega arith) w.0,
     )
-    (ap (λ l. some x ∷ l) (numbers_laid m fs xs rest h.1 w.1))
+    (ap (λ l. Some x ∷ l) (numbers_laid m fs xs rest h.1 w.1))
 
 -- the bytes of a field that was read, where its bit is b
 laid_field :
     (b : ℕ) (f : Field) (s : List ℕ) → b < 2 → b * f.1 ≤ length s → Below 256 s →
-    bytes_of f (given (eqb b 1) (number 256 (take f.1 s))) ≡ take (b * f.1) s
+    bytes_of f (then_some (eqb b 1) (number 256 (take f.1 s))) ≡ take (b * f.1) s
 laid_field zero f s l h w = rw (zero-mul f.1)
 laid_field (suc zero) f s l h w =
     let fits = rw one-mul at h in

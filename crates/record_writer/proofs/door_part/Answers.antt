@@ -1,12 +1,10 @@
--- `record_writer::door_part` meets its contract: a door has the bytes of its field, or none.
-use mathlib.Core.Path.{ap}
-use native.Mathlib.Omega.{arith}
-use Rattle.record_format.specs.Records.{door_number}
-use Rattle.record_writer.specs.Laws.Steps.{lays_no_door, lays_door}
+-- `record_writer::door_part` meets its contract: the upper half says which field has the door.
+use Rattle.std.proofs.Common.{◌≡◌, ◌+◌, ◌/◌, refl, arith}
+use Rattle.record_writer.specs.Laws.Steps.{lays_door}
 use Rattle.record_writer.proofs.door_part.Goals as goal
 
-pub returns-in-Missing : goal.returns-in-Missing
-returns-in-Missing c = lays_no_door (ap door_number c.in-Missing.is)
-
-pub returns-in-Number : goal.returns-in-Number
-returns-in-Number c = lays_door (ap door_number c.in-Number.is) (λ l. omega arith) (λ l. omega arith)
+pub returns : goal.returns
+returns c =
+    let same : c.map.result ≡ c.args.door = grind (arith, c.map.ensures.cases) in
+    let wide = (c.unwrap_or.result / 65536 + 65535) / 65536 in
+    lays_door c.args.door {w = wide} same c.unwrap_or.ensures c.unwrap_or.type_inv refl c.number_part.ensures

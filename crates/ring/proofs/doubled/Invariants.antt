@@ -1,5 +1,5 @@
 -- `ring::doubled` meets its contract: each loop writes one place of the table a turn, from the front.
-use Rattle.std.proofs.Common.{ℕ, ◌-◌, ◌≤◌}
+use Rattle.std.proofs.Common.{ℕ}
 use Rattle.lists.proofs.Laws.Fill.{Filled}
 use Rattle.algebra.specs.Integers.{modℤ}
 use Rattle.algebra.specs.Ring.{at, nat}
@@ -7,13 +7,7 @@ use Rattle.algebra.specs.Columns.{doubled}
 use Rattle.ring.proofs.doubled.Given as goal
 
 abbrev pub invariant-loop-j : goal.invariant-loop-j
-invariant-loop-j l = (l.j ≤ 256) × Filled 512 l.w l.j (λ (j : ℕ). modℤ (doubled 256 (at (nat l.b)) j) 65536)
-
-abbrev pub decreases-loop-j : goal.decreases-loop-j
-decreases-loop-j l = 256 - l.j
+invariant-loop-j l = Filled 512 l.w l.j (λ (j : ℕ). modℤ (doubled 256 (at (nat l.b)) j) 65536)
 
 abbrev pub invariant-loop-j-2 : goal.invariant-loop-j-2
-invariant-loop-j-2 l = (256 ≤ l.j) × Filled 512 l.w l.j (λ (j : ℕ). modℤ (doubled 256 (at (nat l.b)) j) 65536)
-
-abbrev pub decreases-loop-j-2 : goal.decreases-loop-j-2
-decreases-loop-j-2 l = 512 - l.j
+invariant-loop-j-2 l = Filled 512 l.w l.j (λ (j : ℕ). modℤ (doubled 256 (at (nat l.b)) j) 65536)

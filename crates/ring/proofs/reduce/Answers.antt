@@ -4,16 +4,16 @@ use Rattle.lists.proofs.Laws.Fill.{fill_none, fill_more, fill_all}
 use Rattle.lists.proofs.Laws.Lists.{from_map}
 use Rattle.ring.proofs.reduce.Goals as goal
 
-pub loop-k-init : goal.loop-k-init
-loop-k-init c = (fill_none refl, λ i h. refl)
+pub loop-x-init : goal.loop-x-init
+loop-x-init c = (fill_none refl, λ i h. refl)
 
-pub loop-k-preserved : goal.loop-k-preserved
-loop-k-preserved c =
-    let loop = c.loop-k in
+pub loop-x-preserved : goal.loop-x-preserved
+loop-x-preserved c =
+    let loop = c.loop-x in
     let m = c.args.m in (
-      fill_more (omega arith) loop.invariant.0 (c.residue.ensures ∙ ap (λ (x : ℕ). x % m) (loop.invariant.1 loop.k (omega arith))),
-      λ i h. get_or-set_other loop.out loop.k i _ 0 (λ e. omega arith) ∙ loop.invariant.1 i (omega arith),
+      fill_more (omega arith) loop.invariant.0 (c.residue.ensures ∙ ap (λ (x : ℕ). x % m) (loop.invariant.1 loop.x-index (omega arith))),
+      λ i h. get_or-set_other loop.out loop.x-index i _ 0 (λ e. omega arith) ∙ loop.invariant.1 i (omega arith),
     )
 
 pub returns : goal.returns
-returns c = fill_all (omega arith) c.loop-k.invariant.0 ∙ from_map _ _ c.args.out.now 0 refl
+returns c = fill_all (omega arith) c.loop-x.invariant.0 ∙ from_map _ _ c.args.out.now 0 refl

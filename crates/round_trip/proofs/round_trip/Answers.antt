@@ -1,5 +1,6 @@
 -- `round_trip::round_trip` meets its contract: the four calls keep their promises, and `trip` says what these give together.
 use Rattle.correctness.proofs.Laws.Theorem.{same_string, trip}
+use Rattle.round_trip.proofs.Refusals.{first_refusal}
 use Rattle.round_trip.proofs.round_trip.Goals as goal
 
 pub returns : goal.returns
@@ -13,4 +14,4 @@ returns c =
       decrypt = same_string a.sets.decrypt _ c.plain_secret_of.ensures c.decrypt-r3.ensures;
       decaps = c.decaps-r4.ensures;
     })
-    c.refusal.ensures
+    (rw (c.and-3.ensures, c.and-2.ensures, c.and.ensures) (first_refusal _ _ _ _))

@@ -1,13 +1,15 @@
--- `sampling::gen_matrix` meets its contract: an answer of 0 gives the inner function what it requires.
-use Rattle.questions.specs.Laws.Answers.{wrote_none}
-use Rattle.sampling.specs.Laws.Lengths.{matrix_lengths, matrix_done}
+-- `sampling::gen_matrix` meets its contract: there are at most 4 rows.
+use Rattle.std.proofs.Common.{◌≤◌, arith, mul-le-mul}
+use Rattle.std.proofs.lemmas.Grind.{common_steps}
+use Rattle.sets.specs.Laws.Sets.{few_polynomials}
 use Rattle.sampling.proofs.gen_matrix.Goals as goal
 
-pub returns-then-r-ne0 : goal.returns-then-r-ne0
-returns-then-r-ne0 c = search wrote_none
+pub overflow_mul-p-2 : goal.overflow_mul-p-2
+overflow_mul-p-2 c =
+    let few : c.in_ok-p.p.l ≤ 4 = grind (arith, few_polynomials) in
+    omega (arith, mul-le-mul few few)
 
 pub matrix_into-requires : goal.matrix_into-requires
-matrix_into-requires c = search matrix_lengths
-
-pub returns : goal.returns
-returns c = search matrix_done
+matrix_into-requires c =
+    let few : c.in_ok-p.p.l ≤ 4 = grind (arith, few_polynomials) in
+    record { few = few; out_long = grind (arith, common_steps) }

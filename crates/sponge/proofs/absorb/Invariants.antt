@@ -1,12 +1,14 @@
--- `sponge::absorb` meets its contract. The loop's invariant: a is the state after the whole blocks before place at.
+-- `sponge::absorb` meets its contract. The loop's invariant: a is the state after the whole blocks before a place, from which on the rest is left.
 use mathlib.Core.Path.{◌≡◌}
-use Prim.Native.Nat.{◌≤◌, ◌-◌, ◌/◌, ◌%◌}
-use lib.ListN.{length}
+use Prim.Native.Nat.{ℕ, ◌≤◌, ◌/◌, ◌%◌}
+use lib.ListN.{length, drop}
 use Rattle.sponge.specs.Sponge.{padded, absorbed}
 use Rattle.sponge.proofs.absorb.Given as goal
 
-abbrev pub invariant-loop-at : goal.invariant-loop-at
-invariant-loop-at l = (l.at ≤ length l.message) × (l.at % l.rate ≡ 0) × (l.a ≡ absorbed l.rate (padded l.rate l.domain l.message) (l.at / l.rate))
+abbrev pub invariant-loop-rest : goal.invariant-loop-rest
+invariant-loop-rest l =
+    (at : ℕ) × (at ≤ length l.message) × (at % l.rate ≡ 0) × (l.rest ≡ drop at l.message)
+    × (l.a ≡ absorbed l.rate (padded l.rate l.domain l.message) (at / l.rate))
 
-abbrev pub decreases-loop-at : goal.decreases-loop-at
-decreases-loop-at l = length l.message - l.at
+abbrev pub decreases-loop-rest : goal.decreases-loop-rest
+decreases-loop-rest l = length l.rest

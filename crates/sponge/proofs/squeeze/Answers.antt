@@ -24,7 +24,7 @@ unfolding later
 loop-at-preserved c =
     let l = c.loop-at in
     let r = c.args.rate in
-    let n = c.least in
+    let n = c.min in
     let now = l.invariant.1 (omega (arith, l.invariant.0.size)) in
     let state = c.permute-next.ensures ∙ now.1 in
     let pos : 0 < r = omega arith in (

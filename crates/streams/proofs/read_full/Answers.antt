@@ -1,6 +1,10 @@
 -- `streams::read_full`: what is read stays within the buffer.
-use Rattle.std.proofs.Common.{arith, rules}
+use Rattle.std.proofs.Common.{arith}
+use Rattle.streams.proofs.read_full.Goals.{in-Ok, in-Err}
 use Rattle.streams.proofs.read_full.Goals as goal
 
-pub loop-turns-preserved : goal.loop-turns-preserved
-loop-turns-preserved g c = record { within = omega arith; kept = search rules }
+pub loop-preserved : goal.loop-preserved
+loop-preserved g c = elim c.match-read.branch [
+  | in-Ok w ↦ omega (arith, w.in-Ok.ensures.bound)
+  | in-Err w ↦ omega arith
+]

@@ -1,9 +1,10 @@
--- `streams::write_all` stays in the text and ends: the turns are counted down.
-use Rattle.std.proofs.Common.{◌≤◌}
+-- `streams::write_all` stays in the text, and has written what is before the place.
+use Rattle.std.proofs.Common.{◌≤◌, length, take}
+use Rattle.std.specs.Io.KnownBytes.{Appends}
 use Rattle.streams.proofs.write_all.Given as goal
 
-abbrev pub invariant-loop-turns : goal.invariant-loop-turns
-invariant-loop-turns g l = l.at ≤ l.n
-
-abbrev pub decreases-loop-turns : goal.decreases-loop-turns
-decreases-loop-turns g l = l.turns
+abbrev pub invariant-loop : goal.invariant-loop
+invariant-loop g l = record {
+  within : l.at ≤ length l.text;
+  written : Appends (g.W.Write.contents l.initial.output) (g.W.Write.contents l.output) (take l.at l.text);
+}

@@ -1,9 +1,0 @@
--- `call_words::list_into` is safe and ends: each number is read from two bytes.
-use Rattle.std.proofs.Common.{◌-◌, ◌≤◌}
-use Rattle.call_words.proofs.list_into.Given as goal
-
-abbrev pub invariant-loop-i : goal.invariant-loop-i
-invariant-loop-i l = l.i ≤ l.n
-
-abbrev pub decreases-loop-i : goal.decreases-loop-i
-decreases-loop-i l = l.n - l.i

@@ -1,0 +1,3 @@
+pub mod Words
+pub mod Reads
+pub mod Replies

@@ -1,0 +1,33 @@
+-- The words of a reply.
+use Rattle.std.specs.Prelude.{ℕ, cond, eqb, List, flat_map, ◌∷◌, ◌++◌, Option, None, Some, codes, decimal, length}
+use Rattle.std.specs.Int.{to_be_bytes, w16}
+use Rattle.hex.specs.Hex.{encode_lower}
+use Rattle.call_words.specs.Words.{space}
+use Rattle.call_words.specs.declared.Fault.{Fault}
+use Rattle.call_words.specs.declared.Fault.TheVariants.{TooLong, UnknownCall, WrongCount, BadDigit, OddCount, TooLarge, OutOfMemory}
+
+-- a text with a word more, behind a space where a word stands before
+abbrev pub with_word : List ℕ → List ℕ → List ℕ
+with_word text word = cond (eqb (length text) 0) word (text ++ space ∷ word)
+
+abbrev pub fault_text : Fault → List ℕ
+fault_text TooLong = codes "too long"
+fault_text UnknownCall = codes "unknown call"
+fault_text WrongCount = codes "wrong count"
+fault_text BadDigit = codes "bad digit"
+fault_text OddCount = codes "odd count"
+fault_text TooLarge = codes "too large"
+fault_text OutOfMemory = codes "out of memory"
+
+-- a number that may be missing
+abbrev pub optional_text : Option ℕ → List ℕ
+optional_text None = codes "-"
+optional_text (Some x) = decimal x
+
+-- bytes as hex pairs
+abbrev pub bytes_text : List ℕ → List ℕ
+bytes_text bytes = cond (eqb (length bytes) 0) (codes "-") (encode_lower bytes)
+
+-- numbers of 16 bits, high byte first
+abbrev pub numbers_text : List ℕ → List ℕ
+numbers_text list = bytes_text (flat_map (λ x. to_be_bytes w16 x) list)
