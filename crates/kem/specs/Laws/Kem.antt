@@ -56,7 +56,7 @@ module _ (set : ℕ) {r : ℕ} {p : Params} (is : p ≡ params_of set) (z : r �
   encaps_done pk seed ct ss a e =
       record { answers = sym z ∙ a; ciphertext = rw is at e.ciphertext; shared_secret = rw is at e.shared_secret }
 
-  -- the lengths that `decaps_with` requires
+  -- the lengths that the work of decapsulation needs
   pub decaps_scratch :
       (sk ct ss : ℕ) {secret again : ℕ} → r ≡ earliest (decaps_questions set sk ct ss) → secret ≡ 256 * p.l → again ≡ p.ct →
       DecapsScratch p sk ct secret again ss
