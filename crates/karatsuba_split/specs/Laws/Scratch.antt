@@ -1,5 +1,5 @@
 -- What `split` requires: for the halves, and for one chunk.
-use Rattle.std.specs.Prelude.{◌≡◌, ℕ, zero, suc, ◌+◌, ◌*◌, ◌/◌, ◌^◌, ◌<◌, ◌≤◌, List, length, ◌≢◌}
+use Rattle.std.specs.Prelude.{◌≡◌, ℕ, zero, suc, ◌+◌, ◌*◌, ◌/◌, ◌%◌, ◌^◌, ◌<◌, ◌≤◌, List, length, ◌≢◌}
 use Rattle.std.proofs.Common.{inl, inr, mul-add, mul-le-mul_left, mul-one, arith}
 use Rattle.std.proofs.Math.Nat.{one-le-pow, two-pow-succ}
 use Rattle.algebra.specs.Integers.{Same}
@@ -93,6 +93,10 @@ module _ {rows chunks a out free : ℕ} {w : List ℕ} (r : SplitScratch rows ch
 
       pub sum_scratch : SumScratch a (a + 24 * (rows * c + c)) free (24 * (rows * c + c)) size
       sum_scratch = record { first = omega (arith, fields); second = omega (arith, fields); left = omega (arith, scratch_left, some, least) }
+
+      -- the sums are whole chunks with their zeros
+      pub sum_whole : 24 * (rows * c + c) % 24 ≡ 0
+      sum_whole = omega arith
 
       pub join_scratch : JoinScratch out free (16 * (rows * c)) size
       join_scratch = record { whole = omega arith; apart = omega (arith, fields); left = omega (arith, scratch_left, fields, some, least) }

@@ -55,3 +55,11 @@ rows_more l M s i n old fits p q =
     (rw zero-add at
     (packed_more 10 0 i a b old (omega arith) la (all_below_at 1024 a (round_below (blocks i f)))
     (rw (length_packed 10 n (omega arith) b lb) (omega arith))))
+
+-- all rows, of the matrix that a seed gives
+pub vector_whole :
+    (t : Bool) (l : ℕ) (seed : List ℕ) (s : List ℤ) (old : List ℕ) {A out : List ℕ} → A ≡ matrix l seed →
+    out ≡ placed 0 (packed 10 (map round (blocks l (matrix_row l (side t l A) s)))) old →
+    out ≡ placed 0 (packed 10 (rounded_vector t l seed s)) old
+unfolding rounded_vector matrix_vector
+vector_whole t l seed s old a o = o ∙ rw a

@@ -1,5 +1,5 @@
 -- The noise by its residues modulo 65536.
-use Rattle.std.specs.Prelude.{◌≡◌, ℕ, ◌+◌, ◌*◌, ◌<◌, ◌≤◌, max, true, false, List, [], ◌∷◌, map, length, drop, ℤ, pos, ◌-ℤ◌, slice_index, unsigned_abs, refl}
+use Rattle.std.specs.Prelude.{◌≡◌, ℕ, suc, ◌+◌, ◌-◌, ◌*◌, ◌%◌, ◌<◌, ◌≤◌, max, true, false, List, [], ◌∷◌, map, length, drop, ℤ, pos, negsuc, ◌-ℤ◌, slice_index, unsigned_abs, refl}
 use Rattle.std.proofs.Common.{sym, ap₂, ◌∙◌, mod-eq_of_lt, arith, drop_of_length-le, get_or-drop, get_or-take}
 use Rattle.std.proofs.Math.Path.{ap}
 use Rattle.std.proofs.Math.Decide.{dec_lt}
@@ -9,7 +9,7 @@ use Rattle.lists.specs.Lists.{from}
 use Rattle.lists.proofs.Laws.Lists.{drop_next, from_at, from_cong, length_from}
 use Rattle.algebra.specs.Integers.{modℤ, Same}
 use Rattle.algebra.specs.Ring.{at, inner, nat, residues, poly, blocks}
-use Rattle.algebra.proofs.Laws.Residues.{mod_bound, same_residue, same_sym, same_add, same_neg}
+use Rattle.algebra.proofs.Laws.Residues.{mod_of, mod_bound, same_residue, same_sym, same_trans, same_add, same_neg, same_minus}
 use Rattle.algebra.proofs.Laws.Reduced.{at_residues, residues_nat, residues_coarser, inner_residues}
 use Rattle.algebra.proofs.Laws.Product.{length_inner, inner_cong}
 use Rattle.algebra.proofs.Laws.Vectors.{length_poly, blocks_cong, map_blocks, poly_blocks}
@@ -25,6 +25,12 @@ use Rattle.margin_noise.specs.Laws.Bounds.{magnitude_is, noise_bound, norm_bound
 -- what counts is the residue modulo 8192
 error_residue : (t : ℤ) → error (pos (modℤ t 8192)) ≡ error t
 error_residue t = rw (error_is t, error_is (pos (modℤ t 8192)), mod-eq_of_lt (mod_bound t 8192 (omega arith)))
+
+-- as the code computes it
+pub error_word : (x : ℕ) {y r : ℕ} → y ≡ (x + 4) % 65536 → r < 65536 → (r + y % 8) % 65536 ≡ 4 → r ≡ modℤ (error (pos x)) 65536
+error_word x {y} {r} e h q =
+    let drops : (x % 8192 + 4) % 8 ≡ y % 8 = omega arith in
+    sym (mod-eq_of_lt h) ∙ mod_of 65536 (omega arith) (same_minus 4 (y % 8) {r = r} q) ∙ rw (error_is (pos x), drops)
 
 error_all : (ts : List ℤ) → map (λ x. modℤ (error (pos x)) 65536) (residues 8192 ts) ≡ residues 65536 (map error ts)
 error_all [] = refl
@@ -78,6 +84,20 @@ module _ (l : ℕ) (M : ℕ → ℕ → List ℕ) where
       ∙ ap (residues 65536) (inner_cong 256 l _ _ (poly t) (poly t) (λ i h. errors_secret s i) (λ i h. refl))
 
 -- ---- the noise
+-- a number near zero by the difference of two residues, and its magnitude as the code computes it
+module _ (x y d : ℕ) (h : d < 65536) (e : (d + y) % 65536 ≡ x) where
+  pub magnitude_plain : d < 32768 → d ≡ unsigned_abs (around 65536 (pos x -ℤ pos y))
+  magnitude_plain l =
+      ap unsigned_abs (sym (around_is 65536 (omega arith) (pos d) (pos x -ℤ pos y) (same_sym (same_minus x y e)) (omega arith) (omega arith)))
+
+  pub magnitude_turned : 32768 ≤ d → 65536 - d ≡ unsigned_abs (around 65536 (pos x -ℤ pos y))
+  magnitude_turned l =
+      let turned : Same 65536 (pos d) (negsuc (65535 - d)) = record { less = 0; more = 1; eq = omega arith } in
+      let whole : 65536 - d ≡ suc (65535 - d) = omega arith in
+      whole
+      ∙ ap unsigned_abs (sym (around_is 65536 (omega arith) (negsuc (65535 - d)) (pos x -ℤ pos y) (same_trans (same_sym (same_minus x y e)) turned)
+      (omega arith) (omega arith)))
+
 small_poly : (most : ℕ) (s : List ℤ) → Small most s → (i : ℕ) → Small most (poly s i)
 small_poly most s h i k = go (dec_lt k 256)
   where

@@ -1,7 +1,7 @@
 -- What the code computes, column by column.
 use Rattle.std.specs.Prelude.{ℕ, ◌+◌, ◌-◌, ◌*◌, ◌%◌, ◌<◌, ◌≤◌, Bool, true, cond, not, List, map, ◌≡◌, length, take, drop}
 use Rattle.std.proofs.Math.Path.{refl, ap, fun_ext}
-use Rattle.std.proofs.Common.{sym, ◌∙◌, mul-le-mul_left, arith, length-take, length-drop}
+use Rattle.std.proofs.Common.{sym, ◌∙◌, mul-le-mul, mul-le-mul_left, le_refl, arith, length-take, length-drop}
 use Rattle.std.proofs.Math.Nat.{mul-add}
 use Rattle.lists.specs.Numbers.{Below}
 use Rattle.lists.proofs.Laws.Parts.{mid_part}
@@ -16,7 +16,11 @@ use Rattle.algebra.specs.Vectors.{inner_mod, matrix_row, side}
 use Rattle.algebra.proofs.Laws.Matrices.{strided, within}
 use Rattle.matrix.specs.Ensures.{sums}
 
--- a place is among packed polynomials where the last one is
+-- packed polynomials are no more than their bytes
+pub count_fits : (w count : ℕ) {bytes : ℕ} → 1 ≤ w → bytes ≡ 32 * w * count → count ≤ bytes
+count_fits w count h e = rw e (omega (arith, mul-le-mul h (le_refl count)))
+
+-- a place is among them where the last one is
 pub before_last : (start step n : ℕ) {count i : ℕ} → start + step * (n - 1) < count → i < n → start + step * i < count
 before_last start step n {i = i} h k =
     let few : i ≤ n - 1 = omega arith in
