@@ -13,9 +13,9 @@ ghost use Rattle.algebra.specs.Vectors.{entry};
 ghost use Rattle.matrix.specs.Ensures.{entries};
 ghost use Rattle.noise.specs.Noise.{around, error, errors, noise};
 ghost use Rattle.margin_noise.specs.Norm.{norm};
-ghost use Rattle.margin_noise.specs.Requires.{SecretsLengths, NoiseLengths};
+ghost use Rattle.margin_noise.specs.Requires.{SecretsScratch, NoiseLengths};
 
-use matrix::{Matrix, Scratch};
+use matrix::{Matrix, THREE_ROWS, THREE_ROWS_WORK};
 
 // The error of rounding a coefficient: 4 less what rounding drops.
 fn error_of(x: u16) -> u16
@@ -33,18 +33,19 @@ fn errors_in(exact: &mut [u16])
     }
 }
 
-// The errors of the product of a matrix and the secret s, and their inner product with the secret t.
-fn product(matrix: &Matrix, s: &[u16], t: &[u16], scratch: &mut Scratch) -> [u16; 256]
-    requires { SecretsLengths matrix.now.l (length s.now) (length t.now) }
+// The errors of the product of a matrix and the secret s, and their inner product with the secret t. The caller lends a buffer for three
+// polynomials, and scratch.
+fn product(matrix: &Matrix, s: &[u16], t: &[u16], cut: &mut [u16], work: &mut [u16]) -> [u16; 256]
+    requires { SecretsScratch matrix.now.l (length s.now) (length t.now) (length cut.old) (length work.old) }
     ensures { result
         ≡ residues 65536 (inner 256 matrix.now.l (errors 256 matrix.now.l (entries matrix.now) (poly (nat s.now)))
         (poly (nat t.now))) }
 {
     let mut exact = [0u16; 1024];
     let exact = &mut exact[..256 * matrix.l];
-    matrix.product_into(s, scratch, exact);
+    matrix.product_into(s, cut, work, exact);
     errors_in(exact);
-    matrix::inner_words(matrix.l, exact, t, &mut scratch.work)
+    matrix::inner_words(matrix.l, exact, t, work)
 }
 
 // The magnitude of the number near zero whose residue is x - y.
@@ -88,8 +89,9 @@ pub fn noise_norm(l: usize, matrix: &[u8], s: &[i8], t: &[i8]) -> usize
         l,
         transposed: true,
     };
-    let mut scratch = Scratch::new();
-    let left = product(&itself, t_words, s_words, &mut scratch);
-    let right = product(&turned, s_words, t_words, &mut scratch);
+    let mut cut = [0u16; THREE_ROWS];
+    let mut work = [0u16; THREE_ROWS_WORK];
+    let left = product(&itself, t_words, s_words, &mut cut, &mut work);
+    let right = product(&turned, s_words, t_words, &mut cut, &mut work);
     norm_of(&left, &right)
 }

@@ -5,7 +5,7 @@ ghost use Rattle.std.specs.Prelude.{cond, not, ◌≡◌, ℕ, ◌+◌, ◌*◌,
 ghost use Rattle.algebra.specs.Ring.{nat, poly, blocks};
 ghost use Rattle.packing.specs.Packing.{unpacked};
 ghost use Rattle.algebra.specs.Vectors.{inner_mod, matrix_row, matrix_vector};
-ghost use Rattle.matrix.specs.Requires.{CutLengths, WordsScratch, InnerScratch, RowsLengths, ProductLengths};
+ghost use Rattle.matrix.specs.Requires.{CutLengths, WordsScratch, InnerScratch, RowsScratch, ProductScratch};
 
 use karatsuba::rows_add;
 use ring::reduce;
@@ -16,21 +16,11 @@ pub const AT_ONCE: usize = 3;
 // The scratch of an inner product, one row at a time.
 pub const ONE_ROW_WORK: usize = karatsuba::ONE_ROW_WORK;
 
-// The buffers of products: room for four polynomials, up to three of which are multiplied at once, and the scratch for three rows.
-#[derive(Drop)]
-pub struct Scratch {
-    pub cut: [u16; 1024],
-    pub work: [u16; karatsuba::THREE_ROWS_WORK],
-}
+// The scratch for three rows at a time.
+pub const THREE_ROWS_WORK: usize = karatsuba::THREE_ROWS_WORK;
 
-impl Scratch {
-    pub fn new() -> Scratch {
-        Scratch {
-            cut: [0; 1024],
-            work: [0; karatsuba::THREE_ROWS_WORK],
-        }
-    }
-}
+// The buffer for the three polynomials that are then multiplied at once.
+pub const THREE_ROWS: usize = 256 * AT_ONCE;
 
 // For each i below `rows` the polynomial at place `start` + `step` i among packed ones.
 fn cut_into(width: u32, bytes: &[u8], start: usize, step: usize, rows: usize, out: &mut [u16])
@@ -60,29 +50,30 @@ struct Grid<'a> {
 
 impl Grid<'_> {
     ghost use Rattle.matrix.specs.Ensures.{polynomial, sums};
-    ghost use Rattle.matrix.specs.Requires.{SumsLengths};
+    ghost use Rattle.matrix.specs.Requires.{SumsScratch};
 
     // For each of the first `rows` rows the sum of the products of its l polynomials and those of s, modulo 65536: zeros, to which each turn adds
-    // one product a row.
-    fn sums_into(&self, rows: usize, l: usize, s: &[u16], scratch: &mut Scratch, out: &mut [u16])
-        requires { SumsLengths self.now rows l (length s.now) (length out.old) }
+    // one product a row. The caller lends a buffer for the polynomials that are multiplied at once, and scratch.
+    fn sums_into(
+        &self,
+        rows: usize,
+        l: usize,
+        s: &[u16],
+        cut: &mut [u16],
+        work: &mut [u16],
+        out: &mut [u16],
+    )
+        requires { SumsScratch self.now rows l (length s.now) (length cut.old) (length work.old) (length out.old) }
         ensures { out.new ≡ sums 65536 rows l (polynomial self.now) s.now }
     {
         out.fill(0);
-        let n = 256 * rows;
+        let cut = &mut cut[..256 * rows];
         for j in 0..l {
             let p = 256 * j;
             let e = p + 256;
             let start = self.start + self.column * j;
-            cut_into(
-                self.width,
-                self.packed,
-                start,
-                self.row,
-                rows,
-                &mut scratch.cut[..n],
-            );
-            rows_add(rows, &scratch.cut[..n], &s[p..e], &mut scratch.work, out);
+            cut_into(self.width, self.packed, start, self.row, rows, cut);
+            rows_add(rows, cut, &s[p..e], work, out);
         }
     }
 }
@@ -138,16 +129,18 @@ impl Matrix<'_> {
         }
     }
 
-    // The product of the matrix and s, modulo 8192: `rows` rows of it from row `first` on.
+    // The product of the matrix and s, modulo 8192: `rows` rows of it from row `first` on. The caller lends a buffer for the polynomials that are
+    // multiplied at once, and scratch.
     pub fn rows_into(
         &self,
         s: &[u16],
         first: usize,
         rows: usize,
-        scratch: &mut Scratch,
+        cut: &mut [u16],
+        work: &mut [u16],
         out: &mut [u16],
     )
-        requires { RowsLengths self.now.l (length s.now) first rows (length out.old) }
+        requires { RowsScratch self.now.l (length s.now) first rows (length cut.old) (length work.old) (length out.old) }
         ensures { out.new
             ≡ blocks rows (λ (k : ℕ). matrix_row self.now.l (entries self.now) (nat s.now) (first + k)) }
     {
@@ -159,19 +152,19 @@ impl Matrix<'_> {
             row,
             column,
         };
-        grid.sums_into(rows, self.l, s, scratch, out);
+        grid.sums_into(rows, self.l, s, cut, work, out);
         reduce(8192, out);
     }
 
-    // All rows of the product, up to three at a time.
-    pub fn product_into(&self, s: &[u16], scratch: &mut Scratch, out: &mut [u16])
-        requires { ProductLengths self.now.l (length s.now) (length out.old) }
+    // All rows of the product, up to three at a time, with a buffer and scratch for three.
+    pub fn product_into(&self, s: &[u16], cut: &mut [u16], work: &mut [u16], out: &mut [u16])
+        requires { ProductScratch self.now.l (length s.now) (length cut.old) (length work.old) (length out.old) }
         ensures { out.new ≡ matrix_vector self.now.l (entries self.now) (nat s.now) }
     {
         for first in (0..self.l).step_by(AT_ONCE) {
             let rows = (self.l - first).min(AT_ONCE);
             let end = first + rows;
-            self.rows_into(s, first, rows, scratch, &mut out[256 * first..256 * end]);
+            self.rows_into(s, first, rows, cut, work, &mut out[256 * first..256 * end]);
         }
     }
 }

@@ -1,5 +1,5 @@
 -- `matrix::Grid::sums_into` meets its contract: after the zeros, each turn cuts a column and adds one product to each sum.
-use Rattle.std.proofs.Common.{◌≡◌, ◌+◌, ◌*◌, length, ◌∙◌, rules, take_at}
+use Rattle.std.proofs.Common.{◌+◌, ◌*◌, ◌∙◌}
 use Rattle.matrix.specs.Ensures.{polynomial}
 use Rattle.matrix.specs.Laws.Rows.{before_last, part_long}
 use Rattle.matrix.specs.Laws.Sums.{sums_none, sums_more}
@@ -12,9 +12,8 @@ pub loop-j-preserved : goal.loop-j-preserved
 loop-j-preserved c =
     let g = c.args.self.now in
     let j = c.loop-j.j in
-    let long : length c.cut_into.new.out ≡ 256 * c.args.rows = search rules in
     sums_more (polynomial g) c.args.s.now c.args.rows j
     (λ i h.
     part_long g.width _ c.requires.count g.packed.now c.requires.least c.requires.whole
     (before_last (g.start + g.column * j) g.row c.args.rows (c.requires.last j c.loop-j-test.true) h))
-    (take_at _ _ _ long ∙ c.cut_into.ensures) c.loop-j.invariant c.rows_add.ensures
+    c.cut_into.ensures c.loop-j.invariant c.rows_add.ensures

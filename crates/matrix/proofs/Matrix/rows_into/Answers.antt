@@ -12,11 +12,13 @@ sums_into-requires c =
       least = omega arith;
       most = omega arith;
       some = p.some;
-      few = p.few;
+      few = omega (arith, p.few);
       count = m.l * m.l;
       whole = m.whole;
       last = λ j h. rows_last m.transposed m.l c.strides-row.ensures.row c.strides-row.ensures.column c.args.first c.args.rows j p.some p.within h;
       vector = p.vector;
+      cut_long = p.cut_long;
+      scratch = omega (arith, p.scratch, p.few);
       fits = p.fits;
     }
 
