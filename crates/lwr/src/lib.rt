@@ -13,8 +13,8 @@ ghost use Rattle.lwr.specs.Requires.{RoundedRowsScratch, RoundedScratch, VectorL
 
 use matrix::{AT_ONCE, Matrix, THREE_ROWS, THREE_ROWS_WORK};
 
-// `rows` rows of the product of a matrix and a secret, from row `first` on, rounded and packed to their places in the output. The caller lends a buffer
-// for the polynomials that are multiplied at once and then for the rounded rows, and scratch.
+// `rows` rows of the product of a matrix and a secret, from row `first` on, rounded and packed to their places in the output. The caller lends a
+// buffer for the polynomials that are multiplied at once and then for the rounded rows, and scratch.
 fn rows_into(
     matrix: &Matrix,
     secret: &[u16],
