@@ -5,6 +5,9 @@ use Rattle.matrix.specs.Laws.Rows.{before_last, part_long}
 use Rattle.matrix.specs.Laws.Sums.{sums_none, sums_more}
 use Rattle.matrix.proofs.Grid.sums_into.Goals as goal
 
+pub slice_bounds-cut-end : goal.slice_bounds-cut-end
+slice_bounds-cut-end c = c.requires.cut_long
+
 pub loop-j-init : goal.loop-j-init
 loop-j-init c = c.fill.ensures.after (λ y h. h) ∙ rw c.requires.fits (sums_none _ _ _)
 
