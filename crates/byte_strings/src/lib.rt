@@ -5,13 +5,13 @@ ghost use Rattle.std.specs.Prelude.{cond, ◌++◌, ◌≡◌, ◌+◌, ◌≤�
 ghost use Rattle.lists.specs.Strings.{same, placed};
 
 // Copies a string to a place of a larger one.
-#[tactic(auto, unfolding(lists::specs::Strings::placed))]
 pub fn copy_at(from: &[u8], at: usize, to: &mut [u8])
     requires { at + length from.now ≤ length to.old }
     ensures { to.new ≡ placed at from.now to.old }
 {
-    let end = at + from.len();
-    to[at..end].copy_from_slice(from);
+    for i in 0..from.len() {
+        to[at + i] = from[i];
+    }
 }
 
 // The bits in which bytes of two strings of one length differ, gathered: 0 where the strings are the same. Every byte is compared, also after a

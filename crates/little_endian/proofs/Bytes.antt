@@ -1,7 +1,8 @@
 -- The eight bytes of a 64-bit number, as std gives and takes them, are its digits to the base 256.
-use Rattle.std.specs.Prelude.{ℕ, zero, suc, ◌-◌, ◌/◌, ◌%◌, ◌≤◌, List, [], ◌∷◌, ◌++◌, ◌≡◌, refl, length, take, drop, replicate}
-use Rattle.std.proofs.Common.{sym, ap, ◌∙◌, arith, div-one, length-append, length-drop, w64}
+use Rattle.std.specs.Prelude.{ℕ, zero, suc, ◌+◌, ◌-◌, ◌/◌, ◌%◌, ◌<◌, ◌≤◌, List, [], ◌∷◌, ◌++◌, ◌≡◌, refl, length, get_or, set, take, drop, replicate}
+use Rattle.std.proofs.Common.{sym, ap, ◌∙◌, arith, zero-add, div-one, length-append, length-drop, w64}
 use Rattle.std.proofs.lemmas.List.{drop-replicate}
+use Rattle.std.proofs.lemmas.List.Edits.{paste_more}
 use Rattle.std.specs.Int.{to_le_bytes, from_le_bytes}
 use Rattle.lists.specs.Lists.{from}
 use Rattle.lists.specs.Numbers.{number, digits}
@@ -37,3 +38,9 @@ loaded s h =
     bytes_number (s ++ drop (length s) (replicate 8 0)) (simp (length-append, length-drop) (omega arith))
     ∙ number_append 256 s (drop (length s) (replicate 8 0))
     ∙ rw (drop-replicate {X = ℕ} (length s) 8 0, number_zeros 256 (8 - length s)) (omega arith)
+
+-- a loop that copies s over the front of d: one turn
+pub copied :
+    (d s : List ℕ) (i : ℕ) → i < length d → i < length s →
+    set (take i s ++ drop i d) i (get_or s i 0) ≡ take (i + 1) s ++ drop (i + 1) d
+copied d s i h k = simp zero-add at (paste_more d 0 s i 0 (omega arith) k)

@@ -11,7 +11,9 @@ pub fn load(bytes: &[u8]) -> u64
     ensures { (result ≡ number 256 bytes.now) × (result < 256 ^ length bytes.now) }
 {
     let mut all = [0u8; 8];
-    all[..bytes.len()].copy_from_slice(bytes);
+    for i in 0..bytes.len() {
+        all[i] = bytes[i];
+    }
     u64::from_le_bytes(all)
 }
 
@@ -36,8 +38,10 @@ pub fn store(x: u64, bytes: &mut [u8])
     requires { length bytes.old ≤ 8 }
     ensures { bytes.new ≡ digits 256 (length bytes.old) x }
 {
-    let n = bytes.len();
-    bytes.copy_from_slice(&x.to_le_bytes()[..n]);
+    let all = x.to_le_bytes();
+    for k in 0..bytes.len() {
+        bytes[k] = all[k];
+    }
 }
 
 // Writes the n lowest bytes of a number to a place, up to eight.
