@@ -34,10 +34,10 @@ CONTROL = "a control, which has to be found"
 # How many places of a kind a function has, and why. A loop of Q8 has 256 turns, of which the compiler puts four in a row.
 LISTED = {
     ("jump", "saber_pack"): (4, Q8),
-    ("jump", "saber_poly_mul"): (8, Q8),
-    ("jump", "saber_poly_mul_karatsuba"): (8, Q8),
+    ("jump", "saber_poly_mul"): (6, Q8),
+    ("jump", "saber_poly_mul_karatsuba"): (6, Q8),
     ("jump", "saber_recon_data"): (4, Q8),
-    ("jump", "saber_recover"): (8, Q8),
+    ("jump", "saber_recover"): (6, Q8),
     ("jump", "saber_round"): (4, Q8),
     ("address", "sampling::secret_into"): (4, TABLE),
     ("jump", "control_jump"): (1, CONTROL),

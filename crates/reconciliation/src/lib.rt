@@ -71,7 +71,8 @@ pub fn recon_data(set: u32, w: &[u16], data: &mut [u16]) -> Result<(), Refusal>
     Ok(())
 }
 
-// Recovery of the message bits: Q1, Q7, Q8, Q9. The bound of data, 1024 / g, is 2 t.
+// Recovery of the message bits: Q1, Q7, Q8, Q9. The bound of data, 1024 / g, is 2 t. Each list is read whatever the other
+// holds.
 #[tactic(auto, using(sets::specs::Laws::Sets::data_bound), unfolding(questions::specs::Answers::earliest))]
 pub fn recover(set: u32, v: &[u16], data: &[u16], bits: &mut [u16]) -> Result<(), Refusal>
     ensures { Recovered set v.now «data».now bits.old (answer_of result) bits.new }
@@ -79,9 +80,11 @@ pub fn recover(set: u32, v: &[u16], data: &[u16], bits: &mut [u16]) -> Result<()
     let p = known_params(set).ok_or(Refusal::UnknownSet)?;
     ask(v.len() == 256, Refusal::InputLength)?;
     ask(data.len() == 256, Refusal::InputLength)?;
-    ask(all_below(1024, v), Refusal::CoefficientRange)?;
     let bound = 2 * p.t as u32;
-    ask(all_below(bound, data), Refusal::CoefficientRange)?;
+    let v_below = all_below(1024, v);
+    let data_below = all_below(bound, data);
+    ask(data_below, Refusal::CoefficientRange)?;
+    ask(v_below, Refusal::CoefficientRange)?;
     ask(bits.len() == 256, Refusal::OutputLength)?;
     recover_into(p.g, p.margin, v, data, bits);
     Ok(())

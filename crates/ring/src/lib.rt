@@ -72,7 +72,7 @@ pub fn reduce(m: u16, out: &mut [u16])
     }
 }
 
-// The answer of a ring product. The coefficients are read where modulus and counts are right.
+// The answer of a ring product. The coefficients are read where modulus and counts are right, those of each list whatever the other holds.
 #[tactic(auto, unfolding(questions::specs::Answers::earliest))]
 pub fn mul_answer(modulus: u32, a: &[u16], b: &[u16], output: usize) -> Result<(), Refusal>
     ensures { answer_of result ≡ earliest (mul_questions modulus a.now b.now output) }
@@ -81,8 +81,10 @@ pub fn mul_answer(modulus: u32, a: &[u16], b: &[u16], output: usize) -> Result<(
     ask(known, Refusal::UnknownNumber)?;
     ask(a.len() == 256, Refusal::InputLength)?;
     ask(b.len() == 256, Refusal::InputLength)?;
-    ask(all_below(modulus, a), Refusal::CoefficientRange)?;
-    ask(all_below(modulus, b), Refusal::CoefficientRange)?;
+    let a_below = all_below(modulus, a);
+    let b_below = all_below(modulus, b);
+    ask(b_below, Refusal::CoefficientRange)?;
+    ask(a_below, Refusal::CoefficientRange)?;
     ask(output == 256, Refusal::OutputLength)
 }
 
