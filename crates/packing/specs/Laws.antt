@@ -1,3 +1,4 @@
 pub mod Packing
 pub mod Cutting
+pub mod Lengths
 pub mod Polynomials

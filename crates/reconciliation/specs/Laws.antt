@@ -1,1 +1,2 @@
 pub mod Reconciliation
+pub mod Lengths
