@@ -1,28 +1,42 @@
-// Prints the table of the parameter sets.
+// Prints the table of the parameter sets, by writes that need no heap. After one that fails nothing more is written.
 #![tactic(auto)]
 
-use std::alloc::{AllocError, Global};
 use std::io;
 use std::io::Write;
 use streams::Failure;
 
-// The table, a line for each set.
-fn table(alloc: Global) -> Result<String, AllocError> {
-    let mut text = String::from_str(alloc, "set l mu t g pk sk ct margin\n")?;
+// Prints a number and a space.
+fn print_column<W: Write>(output: &mut W, x: usize) -> io::Result<()> {
+    streams::print_decimal(output, x as u64)?;
+    streams::write_all(output, b" ")
+}
+
+// Prints a set's line.
+fn print_set<W: Write>(output: &mut W, set: u32) -> io::Result<()> {
+    let p = sets::set_params(set);
+    print_column(output, set as usize)?;
+    print_column(output, p.l)?;
+    print_column(output, p.mu)?;
+    print_column(output, p.t as usize)?;
+    print_column(output, p.g as usize)?;
+    print_column(output, p.pk)?;
+    print_column(output, p.sk)?;
+    print_column(output, p.ct)?;
+    streams::print_decimal(output, p.margin as u64)?;
+    streams::write_all(output, b"\n")
+}
+
+// Prints the table, a line for each set.
+fn print_table<W: Write>(output: &mut W) -> io::Result<()> {
+    streams::write_all(output, b"set l mu t g pk sk ct margin\n")?;
     for set in 1..=3 {
-        let p = sets::set_params(set);
-        writeln!(
-            text,
-            "{set} {} {} {} {} {} {} {} {}",
-            p.l, p.mu, p.t, p.g, p.pk, p.sk, p.ct, p.margin
-        )?;
+        print_set(output, set)?;
     }
-    Ok(text)
+    Ok(())
 }
 
 fn main(rt: HostRuntime) -> io::Result<()> {
-    let text = table(rt.alloc())?;
-    match streams::write_all(&mut rt.stdout(), text.as_bytes()) {
+    match print_table(&mut rt.stdout()) {
         Ok(()) => Ok(()),
         Err(error) => streams::report(&rt, "saberset", &Failure::Output(error)),
     }

@@ -2,9 +2,10 @@
 // program says why.
 #![tactic(auto)]
 
-ghost use Rattle.std.specs.Prelude.{◌≤◌, length, IfOk, OnOk};
+ghost use Rattle.std.specs.Prelude.{◌≤◌, length, decimal, IfOk, OnOk};
 ghost use Rattle.std.specs.Io.KnownBytes.{Appends};
 
+use itoa::Buffer;
 use std::io::{ErrorKind, Read, Write};
 use std::{fmt, io};
 
@@ -67,6 +68,14 @@ pub fn write_all<W: Write>(output: &mut W, text: &[u8]) -> io::Result<()>
         }
     }
     Err(io::Error::from(ErrorKind::TimedOut))
+}
+
+// Writes a number in decimal.
+pub fn print_decimal<W: Write>(output: &mut W, x: u64) -> io::Result<()>
+    ensures { OnOk result (Appends (W.contents output.old) (W.contents output.new) (decimal x)) }
+{
+    let mut buffer = Buffer::new();
+    write_all(output, buffer.format(x).as_bytes())
 }
 
 // The text of an error without the number that the system gives it.
