@@ -96,6 +96,6 @@ pub fn read_record(record: &[u8], ciphertext: &mut [u8]) -> Result<Head, Refusal
     ask(record.len() == start + p.ct, Refusal::RecordLength)?;
     ask(is_wide(map, head.door), Refusal::RecordDoor)?;
     ask(ciphertext.len() == p.ct, Refusal::OutputLength)?;
-    ciphertext.copy_from_slice(after);
+    byte_strings::copy_at(after, 0, ciphertext);
     Ok(head)
 }
