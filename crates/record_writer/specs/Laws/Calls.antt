@@ -1,17 +1,21 @@
 -- Laws of writing: with its steps made it keeps its promise.
-use Rattle.std.specs.Prelude.{ℕ, ◌+◌, ◌<◌, Option, List, [], ◌∷◌, ◌++◌, ◌≡◌, length}
-use Rattle.std.proofs.Common.{append_assoc, sym, ap, ◌∙◌, mod-eq_of_lt, arith}
+use Rattle.std.specs.Prelude.{ℕ, ◌+◌, ◌<◌, Option, List, [], ◌∷◌, ◌++◌, ◌≡◌, refl, length}
+use Rattle.std.proofs.Common.{append_assoc, sym, ap, ◌∙◌, mod-eq_of_lt, arith, eqb-true}
 use Rattle.std.proofs.Math.ListN.{length-append}
 use Rattle.lists.specs.Numbers.{digits}
 use Rattle.lists.proofs.Laws.Numbers.{length_digits}
+use Rattle.questions.specs.Answers.{earliest}
+use Rattle.questions.specs.Laws.Answers.{all_yes, wrote, wrote_none}
 use Rattle.sets.specs.declared.Params.{Params}
 use Rattle.sets.specs.Sets.{params_of}
 use Rattle.record_format.specs.declared.Head.{Head}
 use Rattle.record_format.specs.Records.{Field, fields, head_length, short_door, wide_door, numbers_of, bits_of, laid}
-use Rattle.record_format.specs.Records.{map_of, headed, record_of}
+use Rattle.record_format.specs.Records.{map_of, headed, record_of, write_questions}
+use Rattle.record_format.specs.Promises.{Recorded}
 use Rattle.record_format.proofs.Laws.Fields.{length_laid}
 use Rattle.record_format.proofs.Laws.Records.{mapped}
 use Rattle.record_writer.specs.declared.Part.{Part}
+use Rattle.record_writer.specs.Requires.{WriteLengths}
 use Rattle.record_writer.specs.Ensures.{Lays}
 
 -- the bytes of numbers are as many as their part says
@@ -50,3 +54,24 @@ module _ (d t : Option ℕ) (set : ℕ) {p q : Part}
   record_is c ix =
       let byte : m < 256 = omega (arith, ip.bit_few, iq.bit_few) in
       rw (mod-eq_of_lt byte, map_is, ix, ip.bytes, iq.bytes) (simp append_assoc)
+
+  module _ (c old : List ℕ) {r : ℕ} (a : r ≡ earliest (write_questions n set (length c) (length old))) where
+    answered : r ≡ earliest (write_questions (head_length (map_of h)) set (length c) (length old))
+    answered = a ∙ rw head_is
+
+    pub write_refused : (r ≡ 0 → ⊥) → Recorded d t set c old r old
+    write_refused e = wrote_none answered e
+
+    pub write_lengths : r ≡ 0 → WriteLengths p.size q.size (length c) (length old)
+    write_lengths z =
+        let y = all_yes (write_questions n set (length c) (length old)) refl a z in
+        let ct = eqb-true (length c) (params_of set).ct y.1.0 in
+        let size = eqb-true (length old) (n + (params_of set).ct) y.1.1.0 in
+        record { door_few = ip.few; time_few = iq.few; size_is = omega arith }
+
+    pub write_done :
+        {x : Params} {new : List ℕ} → x ≡ params_of set → r ≡ 0 →
+        new
+        ≡ digits 256 1 m ++ (digits 256 p.size p.number ++ (digits 256 q.size q.number ++ (digits 256 1 x.number ++ c))) →
+        Recorded d t set c old 0 new
+    write_done ix z e = wrote answered z (e ∙ record_is c ix)

@@ -47,6 +47,38 @@ lays_door (Some y) {n} {x} {w} {r} i d m e l = go (dec_lt y wide_from)
         let k = rw (i, z) at l in
         rw (f.0, f.1) (record { bit = k.bit; bit_few = k.bit_few; bytes = k.bytes; few = k.few })
 
+-- how a door is written, a missing one and one that is there
+abbrev LaysDoor : Option ℕ → Option ℕ → Part → Type 0
+LaysDoor a b = Lays ((0, 2) ∷ (4, 4) ∷ []) (a ∷ b ∷ [])
+
+module _ {o : Option ℕ} where
+  pub lays_no_door : o ≡ None → LaysDoor (short_door o) (wide_door o) (record { bit = 0; size = 0; number = 0 })
+  unfolding digits bits_of laid
+  lays_no_door e = rw e (record { bit = refl; bit_few = omega arith; bytes = refl; few = omega arith })
+
+  -- w is 0 for a short one and 1 for a wide one
+  pub lays_some_door :
+      {x w : ℕ} → o ≡ Some x → (x < wide_from → w ≡ 0) → (wide_from ≤ x → w ≡ 1) →
+      LaysDoor (short_door o) (wide_door o) (record { bit = 1 + 15 * w; size = 2 + 2 * w; number = x })
+  unfolding digits bits_of laid
+  lays_some_door {x} {w} e short wide = rw e (go (dec_lt x wide_from))
+    where
+      go : Dec (x < wide_from) → LaysDoor (short_door (Some x)) (wide_door (Some x)) (record { bit = 1 + 15 * w; size = 2 + 2 * w; number = x })
+      go (yes l) =
+          let f = is_short x l in
+          rw (f.0, f.1, short l) (record { bit = refl; bit_few = omega arith; bytes = refl; few = omega arith })
+      go (no l) =
+          let g : wide_from ≤ x = omega arith in
+          let f = is_wide x g in
+          rw (f.0, f.1, wide g) (record { bit = refl; bit_few = omega arith; bytes = refl; few = omega arith })
+
+  -- and a time
+  pub lays_no_time : o ≡ None → Lays ((1, 8) ∷ []) (o ∷ []) (record { bit = 0; size = 0; number = 0 })
+  lays_no_time e = lays_none 1 8 e
+
+  pub lays_time : {x : ℕ} → o ≡ Some x → Lays ((1, 8) ∷ []) (o ∷ []) (record { bit = 2; size = 8; number = x })
+  lays_time e = lays_some 1 8 e (omega arith) (omega arith)
+
 -- what stands in a record that is written from the front
 pub record_steps :
     (map door door_size time time_size set : ℕ) (c old : List ℕ) {s0 s1 s2 s3 s : List ℕ} → WriteLengths door_size time_size (length c) (length old) →
