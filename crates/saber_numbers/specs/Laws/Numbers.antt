@@ -1,5 +1,5 @@
--- Laws of the read that lends a variable for each number: one that gives an entry, whose numbers are handed out, and one that is refused.
-use Rattle.std.specs.Prelude.{ℕ, Result, Ok, Err, Some, List, ◌≡◌, eqb}
+-- Laws of numbers that may be missing, by a flag and a number, and of the read that lends them.
+use Rattle.std.specs.Prelude.{ℕ, zero, suc, Option, Some, Result, Ok, Err, List, ◌≡◌, refl, eqb}
 use Rattle.std.proofs.lemmas.Bool.{false≢true}
 use Rattle.std.proofs.Common.{sym, ap, ◌∙◌}
 use Rattle.questions.specs.declared.Refusal.{Refusal}
@@ -7,10 +7,22 @@ use Rattle.questions.specs.Refusals.{number_of}
 use Rattle.questions.specs.Laws.Answers.{numbered_refusal, refused}
 use Rattle.record_format.specs.declared.Head.{Head}
 use Rattle.record_format.specs.Records.{head_in}
-use Rattle.record_format.specs.Promises.{Retrieved}
-use Rattle.saber_numbers.specs.Numbers.{flag_of, or_old}
+use Rattle.record_format.specs.Promises.{Recorded, Retrieved}
+use Rattle.saber_numbers.specs.Numbers.{flagged, flag_of, or_old}
 use Rattle.saber_numbers.specs.Promises.{ReadInto}
 
+-- a flag that is not 0
+pub there : (flag x : ℕ) → (flag ≡ 0 → ⊥) → Some x ≡ flagged flag x
+there zero x h = absurd (h refl)
+there (suc flag) x h = refl
+
+-- the promise of writing, of the door and the time that are meant
+pub recorded_as :
+    {d d' t t' : Option ℕ} (set : ℕ) (ct old : List ℕ) {r : ℕ} {new : List ℕ} → d ≡ d' → t ≡ t' → Recorded d t set ct old r new →
+    Recorded d' t' set ct old r new
+recorded_as set ct old e e' w = rw (e, e') at w
+
+-- a read that gives an entry, whose numbers are handed out, and one that is refused
 module _ (s ct : List ℕ) (has_door door has_time time set : ℕ) {r : Result Head Refusal} {ct' : List ℕ} (w : Retrieved s ct r ct') where
   pub read_entry :
       {h : Head} {has_door' door' has_time' time' : ℕ} → r ≡ Ok h →
