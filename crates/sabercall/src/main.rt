@@ -1,6 +1,9 @@
 // Reads requests from standard input, a line each, and answers them.
 #![tactic(auto)]
 
+ghost use Rattle.std.specs.Prelude.{◌≤◌};
+ghost use Rattle.std.specs.Vec.{vec_len};
+
 use std::alloc::Global;
 use std::io;
 use std::io::{BufRead, BufReader, ErrorKind, Read, Write};
@@ -14,7 +17,10 @@ const KEPT: usize = 65538;
 
 // Reads a line, of which no more than `KEPT` bytes are kept, and says whether a newline ends it. A carriage return before the newline belongs
 // to the end. A proved loop has to end, so it is over more turns than any run takes.
-fn read_line<R: BufRead>(input: &mut R, line: &mut Vec<u8>) -> io::Result<bool> {
+fn read_line<R: BufRead>(input: &mut R, line: &mut Vec<u8>) -> io::Result<bool>
+    requires { vec_len line.old ≤ 65538 }
+    ensures { vec_len line.new ≤ 65538 }
+{
     for _ in 0..u64::MAX {
         let waiting = match input.fill_buf() {
             Ok(waiting) => waiting,
@@ -49,7 +55,9 @@ fn answer_lines<R: Read + Drop, W: Write>(
     output: &mut W,
 ) -> Result<(), Failure> {
     let mut input = BufReader::with_capacity(alloc, BLOCK, input).map_err(Failure::Input)?;
-    let mut line = Vec::new(alloc);
+    let mut line = Vec::with_capacity(alloc, KEPT)
+        .map_err(io::Error::from)
+        .map_err(Failure::Input)?;
     'lines: for _ in 0..u64::MAX {
         line.clear();
         let is_ended = read_line(&mut input, &mut line).map_err(Failure::Input)?;
