@@ -27,7 +27,7 @@ pub enum HashFunction {
 }
 
 // What can be asked for. An output is the content of the buffer that a call is lent.
-#[derive(Drop)]
+#[derive(Clone, Drop)]
 pub enum Request {
     Keygen {
         set: u32,
