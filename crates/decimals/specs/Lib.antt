@@ -1,4 +1,5 @@
 pub mod Decimals
 pub mod Signed
 pub mod Places
+pub mod Ensures
 pub mod Laws

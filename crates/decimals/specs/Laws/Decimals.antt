@@ -5,10 +5,10 @@ use Rattle.std.specs.List.{list_all}
 use Rattle.std.proofs.Math.Bool.{false}
 use mathlib.Core.List.{List, [], ◌∷◌, ◌++◌}
 use Rattle.std.proofs.Common.{ap, ◌∙◌, arith, length-append, drop_of_length-le, lt-ltb, le-ltb, le-leb, leb-true, leb-false}
-use Rattle.std.proofs.Math.Path.{refl}
+use Rattle.std.proofs.Math.Path.{refl, sym}
 use Rattle.std.proofs.Math.Decide.{dec_lt}
 use Rattle.std.proofs.Math.ListN.{get_or}
-use Rattle.std.proofs.lemmas.Bool.{lt-leb}
+use Rattle.std.proofs.lemmas.Bool.{lt-leb, false≢true}
 use Rattle.std.proofs.lemmas.List.Recursion.{and_at}
 use Rattle.decimals.specs.declared.Fault.{Fault}
 use Rattle.decimals.specs.declared.Fault.TheVariants.{BadDigit}
@@ -135,9 +135,26 @@ pub record Partly (most : ℕ) (word : List ℕ) (v : ℕ) (rest : List ℕ) : T
   pub within : v ≤ most
   pub number : value_behind v rest ≡ value word
 
+pub partly_none : (most : ℕ) (word : List ℕ) → Partly most word 0 word
+partly_none most word = record { within = omega arith; number = refl }
+
 pub read_none : (most : ℕ) (word : List ℕ) → is_decimal word ≡ false → Err BadDigit ≡ number_read most word
 unfolding number_read
 read_none most word h = rw h
+
+pub none_read : (most : ℕ) (word : List ℕ) → length word ≡ 0 → Err BadDigit ≡ number_read most word
+unfolding is_decimal
+none_read most [] h = read_none most [] refl
+none_read most (b ∷ bs) h = absurd (omega arith)
+
+pub partly_bad : (most : ℕ) (word : List ℕ) (i : ℕ) → i < length word → is_digit (get_or word i 0) ≡ false → Err BadDigit ≡ number_read most word
+partly_bad most word i h bad = go (is_decimal word) refl
+  where
+    go : (t : Bool) → is_decimal word ≡ t → Err BadDigit ≡ number_read most word
+    go true e =
+        let digit = and_at (list_all is_digit) is_digit refl (λ _ _. refl) word i 0 h (all_digits word e) in
+        absurd (false≢true (sym bad ∙ digit))
+    go false e = read_none most word e
 
 module _ {most : ℕ} {word : List ℕ} {v : ℕ} where
   next : (i : ℕ) → i < length word → Partly most word v (drop i word) → value_behind (v * 10 + (get_or word i 0 - 48)) (drop (i + 1) word) ≡ value word

@@ -1,24 +1,66 @@
--- Laws of the pieces of a word: what is read of each, and what is read of them all.
-use Rattle.std.specs.Prelude.{ℕ, zero, suc, ◌+◌, ◌*◌, ◌<◌, ◌≤◌, Bool, cond, ◌≡◌, Result, Ok, Err, MatchResult, leb, eqb, ℤ, length, get_or, take, drop, set}
+-- Laws of the pieces of a word: where they part, what is read of each, and what is read of them all.
+use Rattle.std.specs.Prelude.{ℕ, zero, suc, ◌+◌, ◌-◌, ◌*◌, ◌<◌, ◌≤◌, Bool, cond, ◌≡◌, Result, Ok, Err, MatchResult, ltb, leb, eqb, ℤ, length, get_or, take, drop, set}
 use Rattle.std.specs.List.{list_all, onto_first}
 use Rattle.std.specs.Result.{result_map_both}
 use Rattle.std.proofs.Math.Bool.{true, false}
 use Rattle.std.proofs.lemmas.Bool.{false≢true}
 use mathlib.Core.List.{List, [], ◌∷◌, ◌++◌, map, append_assoc, append-nil}
-use Rattle.std.proofs.Common.{ap, ◌∙◌, arith}
+use Rattle.std.proofs.Common.{ap, ◌∙◌, arith, length-drop, drop-drop}
 use Rattle.std.proofs.Math.Path.{refl, sym}
 use Rattle.std.proofs.Math.Numerals.{add-one}
 use Rattle.std.proofs.Math.Dec.{leb-suc-suc}
 use Rattle.std.proofs.Math.IntN.{pos, neg_ℤ}
-use Rattle.std.proofs.Math.Seq.{take-suc-set}
-use borrow.Author.Tests.{eq-eqb, ne_eqb, eqb-true}
+use Rattle.std.proofs.Math.ListN.{length-take}
+use Rattle.std.proofs.Math.Seq.{take-length, take-suc-set}
+use borrow.Author.Tests.{lt-ltb, le-ltb, eq-eqb, ne_eqb, eqb-true}
 use Rattle.lists.proofs.Laws.Booleans.{and_left}
 use Rattle.lists.proofs.Laws.Lists.{drop_next}
 use Rattle.decimals.specs.declared.Fault.{Fault}
 use Rattle.decimals.specs.declared.Fault.TheVariants.{BadDigit, TooLarge}
+use Rattle.decimals.specs.Places.{index_of, index_after, slice}
 use Rattle.decimals.specs.Decimals.{is_decimal, value, read_as, number_read}
 use Rattle.decimals.specs.Signed.{minus, comma, pieces, is_none, pieces_of, is_formed, number_of, is_small}
 use Rattle.decimals.specs.Signed.{numbers_of, piece_read, list_read, read_to}
+
+-- ---- where the pieces part
+
+-- the pieces behind place k, where there are any
+abbrev later : ℕ → List ℕ → List (List ℕ)
+later k w = cond (ltb k (length w)) (pieces (drop (suc k) w)) []
+
+first_piece : (w : List ℕ) → pieces w ≡ take (index_of comma w) w ∷ later (index_of comma w) w
+unfolding pieces index_of index_after
+first_piece [] = refl
+first_piece (b ∷ bs) = go (eqb b comma) (first_piece bs)
+  where
+    k : ℕ
+    k = index_of comma bs
+
+    go :
+        (t : Bool) → pieces bs ≡ take k bs ∷ later k bs →
+        cond t ([] ∷ pieces bs) (onto_first b (pieces bs)) ≡ take (index_after t k) (b ∷ bs) ∷ later (index_after t k) (b ∷ bs)
+    go true e = rw (lt-ltb 0 (suc (length bs)) (omega arith))
+    go false e = rw (e, leb-suc-suc)
+
+-- the pieces from place `at` on, where the next comma, or else the end, is at place e
+module _ (word : List ℕ) (at e : ℕ) (found : e ≡ at + index_of comma (slice at (length word) word)) where
+  place : e ≡ at + index_of comma (drop at word)
+  unfolding slice
+  place = rw take-length at found
+
+  this_piece : pieces (drop at word) ≡ take (e - at) (drop at word) ∷ later (e - at) (drop at word)
+  this_piece =
+      let k : e - at ≡ index_of comma (drop at word) = omega (arith, place) in
+      rw k (first_piece (drop at word))
+
+  next_pieces : e < length word → later (e - at) (drop at word) ≡ pieces (drop (e + 1) word)
+  next_pieces h =
+      let l : e - at < length (drop at word) = omega (arith, place, length-drop at word) in
+      let next : at + suc (e - at) ≡ e + 1 = omega (arith, place) in
+      rw (lt-ltb (e - at) (length (drop at word)) l, drop-drop (suc (e - at)) at word, next)
+
+  no_pieces : e ≡ length word → later (e - at) (drop at word) ≡ []
+  no_pieces h = rw (le-ltb (e - at) (length (drop at word)) (omega (arith, length-drop at word)))
 
 -- ---- a piece
 
@@ -110,60 +152,49 @@ pub gathered_none : (word : List ℕ) (list : List ℤ) → Gathered word list (
 gathered_none word list =
     record { formed = refl; numbers = record { room = omega (arith, span_is word); small = refl; numbers = refl } }
 
--- one piece more, at place k
-module _ (word : List ℕ) (k : ℕ) (piece : List ℕ) (there : k < length (pieces word)) (is : piece ≡ get_or (pieces word) k piece) where
-  -- the pieces that are left are this one and those behind it
-  here : drop k (pieces word) ≡ piece ∷ drop (k + 1) (pieces word)
-  here = drop_next (pieces word) k piece there ∙ ap (λ (p : List ℕ). p ∷ drop (k + 1) (pieces word)) (sym is)
-
-  formed_next :
-      list_all is_formed (pieces word) ≡ list_all is_formed (drop k (pieces word)) → is_formed piece ≡ true →
-      list_all is_formed (pieces word) ≡ list_all is_formed (drop (k + 1) (pieces word))
+-- one piece more, of those that are left
+module _ (word piece : List ℕ) {left rest : List (List ℕ)} (here : left ≡ piece ∷ rest) where
+  formed_next : list_all is_formed (pieces word) ≡ list_all is_formed left → is_formed piece ≡ true → list_all is_formed (pieces word) ≡ list_all is_formed rest
   formed_next h f = h ∙ rw (here, f)
 
-  pub bad_read :
-      {list : List ℤ} {read : Result ℕ Fault} → Err BadDigit ≡ piece_read piece → Gathered word list read (drop k (pieces word)) →
-      list_all is_formed (pieces word) ≡ false
+  bad_next : {list : List ℤ} {read : Result ℕ Fault} → Err BadDigit ≡ piece_read piece → Gathered word list read left → list_all is_formed (pieces word) ≡ false
   unfolding piece_read
-  bad_read h g =
+  bad_next h g =
       let bad = read_bad (is_formed piece) (is_small (number_of piece)) (number_of piece) h in
       g.formed ∙ rw (here, bad)
 
-  pub large_read :
-      {list : List ℤ} {read : Result ℕ Fault} → Err TooLarge ≡ piece_read piece → Gathered word list read (drop k (pieces word)) →
-      Gathered word list (Err TooLarge) (drop (k + 1) (pieces word))
+  large_next :
+      {list : List ℤ} {read : Result ℕ Fault} → Err TooLarge ≡ piece_read piece → Gathered word list read left → Gathered word list (Err TooLarge) rest
   unfolding piece_read
-  large_read {list} {read} h g =
+  large_next {list} {read} h g =
       let large = read_large (is_formed piece) (is_small (number_of piece)) (number_of piece) h in
       record { formed = formed_next g.formed large.0; numbers = (refl, go large.1 read g.numbers) }
     where
       go :
           is_small (number_of piece) ≡ false → (read : Result ℕ Fault) →
-          MatchResult read (λ n. Sound word list n (drop k (pieces word))) (λ e. (e ≡ TooLarge) × (list_all is_small (map number_of (pieces word)) ≡ false)) →
+          MatchResult read (λ n. Sound word list n left) (λ e. (e ≡ TooLarge) × (list_all is_small (map number_of (pieces word)) ≡ false)) →
           list_all is_small (map number_of (pieces word)) ≡ false
       go large (Ok n) s = s.small ∙ rw (here, large)
       go large (Err e) s = s.1
 
-  pub still_large :
-      {list : List ℤ} {z : ℤ} {e : Fault} → Ok z ≡ piece_read piece → Gathered word list (Err e) (drop k (pieces word)) →
-      Gathered word list (Err e) (drop (k + 1) (pieces word))
+  still_next : {list : List ℤ} {z : ℤ} {e : Fault} → Ok z ≡ piece_read piece → Gathered word list (Err e) left → Gathered word list (Err e) rest
   unfolding piece_read
-  still_large {list} {z} h g =
+  still_next {list} {z} h g =
       let sound = read_sound (is_formed piece) (is_small (number_of piece)) (number_of piece) z h in
       record { formed = formed_next g.formed sound.0; numbers = g.numbers }
 
-  pub place_left : {list : List ℤ} {z : ℤ} {n : ℕ} → Ok z ≡ piece_read piece → Gathered word list (Ok n) (drop k (pieces word)) → 2 * n + 2 ≤ length word + 1
+  place_next : {list : List ℤ} {z : ℤ} {n : ℕ} → Ok z ≡ piece_read piece → Gathered word list (Ok n) left → 2 * n + 2 ≤ length word + 1
   unfolding piece_read span
-  place_left {list} {z} h g =
+  place_next {list} {z} h g =
       let sound = read_sound (is_formed piece) (is_small (number_of piece)) (number_of piece) z h in
       let room = rw here at g.numbers.room in
       omega (arith, formed_some piece sound.0, room)
 
-  pub one_read :
-      {list : List ℤ} {z : ℤ} {n : ℕ} → Ok z ≡ piece_read piece → n < length list → Gathered word list (Ok n) (drop k (pieces word)) →
-      Gathered word (set list n z) (Ok (n + 1)) (drop (k + 1) (pieces word))
+  one_next :
+      {list : List ℤ} {z : ℤ} {n : ℕ} → Ok z ≡ piece_read piece → n < length list → Gathered word list (Ok n) left →
+      Gathered word (set list n z) (Ok (n + 1)) rest
   unfolding piece_read span
-  one_read {list} {z} {n} h l g =
+  one_next {list} {z} {n} h l g =
       let sound = read_sound (is_formed piece) (is_small (number_of piece)) (number_of piece) z h in
       let room = rw here at g.numbers.room in
       let numbers = rw here at g.numbers.numbers in
@@ -174,10 +205,83 @@ module _ (word : List ℕ) (k : ℕ) (piece : List ℕ) (there : k < length (pie
               room = omega (arith, formed_some piece sound.0, room);
               small = g.numbers.small ∙ rw (here, sound.1);
               numbers =
-                  rw (add-one n, take-suc-set list n z l, sound.2, append_assoc (take n list) (number_of piece ∷ []) (map number_of (drop (k + 1) (pieces word))))
-                  numbers;
+                  rw (add-one n, take-suc-set list n z l, sound.2, append_assoc (take n list) (number_of piece ∷ []) (map number_of rest)) numbers;
             };
       }
+
+-- at place k of the pieces
+module _ (word : List ℕ) (k : ℕ) (piece : List ℕ) (there : k < length (pieces word)) (is : piece ≡ get_or (pieces word) k piece) where
+  -- the pieces that are left are this one and those behind it
+  here : drop k (pieces word) ≡ piece ∷ drop (k + 1) (pieces word)
+  here = drop_next (pieces word) k piece there ∙ ap (λ (p : List ℕ). p ∷ drop (k + 1) (pieces word)) (sym is)
+
+  pub bad_read :
+      {list : List ℤ} {read : Result ℕ Fault} → Err BadDigit ≡ piece_read piece → Gathered word list read (drop k (pieces word)) →
+      list_all is_formed (pieces word) ≡ false
+  bad_read h g = bad_next word piece here h g
+
+  pub large_read :
+      {list : List ℤ} {read : Result ℕ Fault} → Err TooLarge ≡ piece_read piece → Gathered word list read (drop k (pieces word)) →
+      Gathered word list (Err TooLarge) (drop (k + 1) (pieces word))
+  large_read h g = large_next word piece here h g
+
+  pub still_large :
+      {list : List ℤ} {z : ℤ} {e : Fault} → Ok z ≡ piece_read piece → Gathered word list (Err e) (drop k (pieces word)) →
+      Gathered word list (Err e) (drop (k + 1) (pieces word))
+  still_large h g = still_next word piece here h g
+
+  pub place_left : {list : List ℤ} {z : ℤ} {n : ℕ} → Ok z ≡ piece_read piece → Gathered word list (Ok n) (drop k (pieces word)) → 2 * n + 2 ≤ length word + 1
+  place_left h g = place_next word piece here h g
+
+  pub one_read :
+      {list : List ℤ} {z : ℤ} {n : ℕ} → Ok z ≡ piece_read piece → n < length list → Gathered word list (Ok n) (drop k (pieces word)) →
+      Gathered word (set list n z) (Ok (n + 1)) (drop (k + 1) (pieces word))
+  one_read h l g = one_next word piece here h l g
+
+-- what is read with a piece more: its number behind the others where both are sound, and else what is too large is kept
+abbrev pub Further : List ℕ → List ℤ → Result ℕ Fault → Result ℤ Fault → List (List ℕ) → Type 0
+Further word list (Ok n) (Ok z) rest = n < length list → Gathered word (set list n z) (Ok (n + 1)) rest
+Further word list (Ok n) (Err e) rest = Gathered word list (Err e) rest
+Further word list (Err e) piece rest = Gathered word list (Err e) rest
+
+further :
+    (word piece : List ℕ) {left rest : List (List ℕ)} (list : List ℤ) (read : Result ℕ Fault) (number : Result ℤ Fault) → left ≡ piece ∷ rest →
+    (piece_read piece ≡ Err BadDigit → ⊥) → number ≡ piece_read piece → Gathered word list read left → Further word list read number rest
+further word piece list (Ok n) (Ok z) here formed h g = λ l. one_next word piece here h l g
+further word piece list (Ok n) (Err BadDigit) here formed h g = absurd (formed (sym h))
+further word piece list (Ok n) (Err TooLarge) here formed h g = large_next word piece here h g
+further word piece list (Err e) (Ok z) here formed h g = still_next word piece here h g
+further word piece list (Err e) (Err BadDigit) here formed h g = absurd (formed (sym h))
+further word piece list (Err e) (Err TooLarge) here formed h g = rw (g.numbers.0) (large_next word piece here h g)
+
+-- a piece that begins at place `at` of the word and ends at e
+module _ (word : List ℕ) (at : ℕ) {e : ℕ} (found : e ≡ at + index_of comma (slice at (length word) word)) where
+  pub bad_piece :
+      {list : List ℤ} {read : Result ℕ Fault} → Gathered word list read (pieces (drop at word)) → piece_read (take (e - at) (drop at word)) ≡ Err BadDigit → list_all is_formed (pieces word) ≡ false
+  bad_piece g h = bad_next word (take (e - at) (drop at word)) (this_piece word at e found) (sym h) g
+
+  module _ (formed : piece_read (take (e - at) (drop at word)) ≡ Err BadDigit → ⊥) where
+    pub some_byte : at < e
+    unfolding piece_read
+    some_byte = go (is_formed piece) refl
+      where
+        piece : List ℕ
+        piece = take (e - at) (drop at word)
+
+        go : (t : Bool) → is_formed piece ≡ t → at < e
+        go true q = omega (arith, formed_some piece q, length-take (e - at) (drop at word))
+        go false q = absurd (formed (rw q))
+
+    module _ {list : List ℤ} {read : Result ℕ Fault} (g : Gathered word list read (pieces (drop at word))) where
+      pub next_piece : e < length word → Further word list read (piece_read (take (e - at) (drop at word))) (pieces (drop (e + 1) word))
+      next_piece h =
+          further word (take (e - at) (drop at word)) list read (piece_read (take (e - at) (drop at word)))
+          (rw (next_pieces word at e found h) at (this_piece word at e found)) formed refl g
+
+      pub last_piece : e ≡ length word → Further word list read (piece_read (take (e - at) (drop at word))) []
+      last_piece h =
+          further word (take (e - at) (drop at word)) list read (piece_read (take (e - at) (drop at word)))
+          (rw (no_pieces word at e found h) at (this_piece word at e found)) formed refl g
 
 -- ---- the word
 
