@@ -11,7 +11,6 @@ ghost use Rattle.call_words.specs.Replies.{with_word, fault_text, optional_text,
 ghost use Rattle.call_words.specs.Reads.{wrong_decimal, decimal_word, optional_word, signed_word, wrong_hex, hex_word, first_read};
 ghost use Rattle.call_words.specs.declared.Fault.TheVariants.{WrongCount, OutOfMemory};
 
-use decimals_write::SignedList;
 use hex::FromHexError;
 use std::alloc::{AllocError, AllocFailed, Global};
 use std::io::Write;
@@ -260,11 +259,18 @@ impl Reply {
         self.bytes(&bytes)
     }
 
-    // Signed numbers, with commas between.
+    // Signed numbers, with commas between. Behind an empty word room is made for the longest text, and what is left of it is cut off again.
     pub fn signed(&mut self, list: &[i8]) -> io::Result<()>
         ensures { OnOk result (self.new ≡ with_word self.old (list_text list.now)) }
     {
-        self.word(SignedList(list))
+        self.word("")?;
+        let start = self.text.len();
+        let longest = list.len().max(1).checked_mul(5).ok_or(AllocError)?;
+        let end = start.checked_add(longest).ok_or(AllocError)?;
+        self.text.resize(end, 0)?;
+        let count = decimals_write::signed_into(list, self.text.slice_mut(start..));
+        self.text.truncate(start + count);
+        Ok(())
     }
 
     // The whole line.
