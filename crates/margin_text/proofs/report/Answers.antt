@@ -1,16 +1,17 @@
 -- `margin_text::report` meets its contract: by the first byte.
 use Rattle.std.proofs.Common.{sym, ◌∙◌, arith, length}
 use Rattle.std.proofs.lemmas.Slice.{between_to_end}
-use Rattle.margin_text.specs.Laws.Texts.{report_none, report_other, report_set}
+use Rattle.margin_text.specs.Laws.Texts.{report_none, report_other, report_set, whole}
 use Rattle.margin_text.proofs.report.Goals as goal
 
-pub returns-in-len1-up : goal.returns-in-len1-up
-returns-in-len1-up c =
-    let input = c.args.input.now in
-    report_set input c.figures_of.result (sym c.is_set.ensures ∙ c.if-is_set.true) (between_to_end input 1 (length input) (omega arith)) c.figures_of.ensures
-
 pub returns-in_default : goal.returns-in_default
-returns-in_default c = report_none c.args.input.now (omega arith)
+returns-in_default c = rw (report_none c.args.input.now (omega arith)) (whole c.refusal_into.ensures)
 
-pub returns-in_default-2 : goal.returns-in_default-2
-returns-in_default-2 c = report_other c.args.input.now (sym c.is_set.ensures ∙ c.if-is_set.false)
+pub returns-then-is_set : goal.returns-then-is_set
+returns-then-is_set c =
+    let input = c.args.input.now in
+    let set = sym c.is_set.ensures ∙ c.if-is_set.true in
+    rw (report_set input set (between_to_end input 1 (length input) (omega arith))) (whole c.figures_into.ensures)
+
+pub returns : goal.returns
+returns c = rw (report_other _ (sym c.is_set.ensures ∙ c.if-is_set.false)) (whole c.refusal_into-2.ensures)
