@@ -2,7 +2,11 @@
 use Rattle.std.proofs.Common.{arith}
 use Rattle.decimals.specs.Laws.Decimals.{more_digits, one_more}
 use Rattle.decimals.specs.Laws.Texts.{appended_as, appended_two}
+use Rattle.decimals_write.proofs.Digit.{some_long}
 use Rattle.decimals_write.proofs.+decimal_into.Goals as goal
+
+pub put-requires : goal.put-requires
+put-requires t c = omega (arith, some_long c.args.n)
 
 pub decimal_into-last-requires : goal.decimal_into-last-requires
 decimal_into-last-requires t c = (omega arith, omega (arith, one_more c.args.n (omega arith)))
