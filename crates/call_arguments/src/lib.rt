@@ -12,7 +12,7 @@ use std::alloc::Global;
 use std::marker::Model;
 
 // The arguments of a line that are not read yet.
-#[derive(Drop)]
+#[derive(Clone, Drop)]
 pub struct Arguments<'a> {
     words: Words<'a>,
     alloc: Global,

@@ -85,7 +85,7 @@ impl<T: Drop> From<AllocFailed<T>> for Fault {
 }
 
 // The words of a line that are not read yet: those of what is left of it, none past its end.
-#[derive(Drop)]
+#[derive(Clone, Drop)]
 pub struct Words<'a> {
     rest: Option<&'a [u8]>,
 }
