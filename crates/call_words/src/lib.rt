@@ -245,6 +245,8 @@ impl Reply {
             return self.word("-");
         }
         let digits = hex::encode(*self.text.allocator(), bytes)?;
+        // with the space before it and the newline
+        self.text.reserve(digits.len().saturating_add(2))?;
         self.word(digits.as_str())
     }
 
