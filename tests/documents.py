@@ -2,8 +2,8 @@
 
     python3 tests/documents.py
 
-The documents are those at the root, in docs/ and in bench/. Landing notes, docs/PORT.md and docs/DESIGN-PASS.md,
-which name what is gone, are not read. A definition is cited as `crate/File.name`, a law as `crate/Laws/File.name`, a
+The documents are those at the root, in docs/ and in bench/. Landing notes, docs/PORT.md, docs/DESIGN-PASS.md and
+docs/LOOK-BACK.md, which name what is gone, are not read. A definition is cited as `crate/File.name`, a law as `crate/Laws/File.name`, a
 proof as `crate/proofs/function`, whether the function has a folder there or is proved without files, one that calls
 itself as `crate/proofs/+function`, a function as `crate::function`, a wrong program by its crate and its name in
 backquotes, and a file by its path. A section is cited by its title in quotes, after its file or before the word below
@@ -17,7 +17,7 @@ from pathlib import Path
 
 ROOT = Path(__file__).resolve().parent.parent
 DOCUMENTS = ("*.md", "docs/*.md", "bench/*.md")
-PAST = {ROOT / "docs/PORT.md", ROOT / "docs/DESIGN-PASS.md"}
+PAST = {ROOT / "docs" / name for name in ("PORT.md", "DESIGN-PASS.md", "LOOK-BACK.md")}
 CRATES = {path.name: path for path in (ROOT / "crates").iterdir()}
 FOLDERS = r"(?:bench|bindings|crates|docs|examples|include|oracle|tests|tools|vectors)/"
 SPECS = re.compile(r"`(\w+)/((?:Laws/)?[A-Z]\w*)\.((?!(?:antt|md)`)[^`\s]+)`")
