@@ -1,7 +1,7 @@
 // Reads requests from standard input, a line each, and answers them.
 #![tactic(auto)]
 
-ghost use Rattle.std.specs.Prelude.{◌≤◌};
+ghost use Rattle.std.specs.Prelude.{◌+◌, ◌≤◌};
 ghost use Rattle.std.specs.Vec.{vec_len};
 
 use std::alloc::Global;
@@ -14,6 +14,14 @@ const BLOCK: usize = 65536;
 
 // A line of 65,536 bytes, with a place more for a carriage return at its end, and one by which a longer line is known.
 const KEPT: usize = 65538;
+
+// How many of `waiting` bytes are kept of a line that has `length` already.
+fn kept_of(waiting: usize, length: usize) -> usize
+    requires { length ≤ 65538 }
+    ensures { (result ≤ waiting) × (length + result ≤ 65538) }
+{
+    waiting.min(KEPT.saturating_sub(length))
+}
 
 // Reads a line, of which no more than `KEPT` bytes are kept, and says whether a newline ends it. A carriage return before the newline belongs
 // to the end. A proved loop has to end, so it is over more turns than any run takes.
@@ -32,7 +40,7 @@ fn read_line<R: BufRead>(input: &mut R, line: &mut Vec<u8>) -> io::Result<bool>
         }
         let newline = waiting.iter().position(|b| *b == b'\n');
         let end = newline.unwrap_or(waiting.len());
-        let kept = end.min(KEPT.saturating_sub(line.len()));
+        let kept = kept_of(end, line.len());
         line.extend_from_slice(&waiting[..kept])?;
         match newline {
             Some(place) => {
