@@ -67,6 +67,7 @@ class Trial:
         self.runs = Counter()
         self.library = Path(folder) / "failing.so"
         self.file = Path(folder) / "output"
+        self.input = Path(folder) / "input"
         source = ROOT / "tests/failing.c"
         subprocess.run(["cc", *OPTIONS, "-shared", "-fPIC", "-o", self.library, source], check=True)
 
@@ -83,8 +84,11 @@ class Trial:
         return done.stdout, done.returncode, done.stderr
 
     def preloaded(self, program, given, **settings):
+        """From a file: a read of a pipe may find fewer bytes than it asks for, by how fast the pipe is filled."""
         names = {name: str(value) for name, value in settings.items()}
-        return self.run(program, given, env=os.environ | names | {"LD_PRELOAD": str(self.library)})
+        self.input.write_bytes(given)
+        with open(self.input, "rb") as source:
+            return self.run(program, None, stdin=source, env=os.environ | names | {"LD_PRELOAD": str(self.library)})
 
     def full(self, program, given):
         with open("/dev/full", "wb") as output:
