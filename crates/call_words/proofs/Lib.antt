@@ -1,2 +1,3 @@
 pub mod Split
 pub mod Dash
+pub mod Digits

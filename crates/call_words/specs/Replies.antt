@@ -1,14 +1,14 @@
 -- The words of a reply.
-use Rattle.std.specs.Prelude.{ℕ, cond, eqb, List, flat_map, ◌∷◌, ◌++◌, Option, None, Some, codes, decimal, length}
+use Rattle.std.specs.Prelude.{ℕ, Bool, cond, eqb, List, flat_map, ◌∷◌, Option, None, Some, codes, decimal, length}
 use Rattle.std.specs.Int.{to_be_bytes, w16}
 use Rattle.hex.specs.Hex.{encode_lower}
 use Rattle.call_words.specs.Words.{space}
 use Rattle.call_words.specs.declared.Fault.{Fault}
 use Rattle.call_words.specs.declared.Fault.TheVariants.{TooLong, UnknownCall, WrongCount, BadDigit, OddCount, TooLarge, OutOfMemory}
 
--- a text with a word more, behind a space where a word stands before
-abbrev pub with_word : List ℕ → List ℕ → List ℕ
-with_word text word = cond (eqb (length text) 0) word (text ++ space ∷ word)
+-- a word, behind a space where a word stands before
+abbrev pub word_behind : Bool → List ℕ → List ℕ
+word_behind before word = cond before (space ∷ word) word
 
 abbrev pub fault_text : Fault → List ℕ
 fault_text TooLong = codes "too long"

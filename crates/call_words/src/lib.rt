@@ -3,19 +3,28 @@
 // spell in the kit's `hex`.
 #![tactic(auto)]
 
-ghost use Rattle.std.specs.Prelude.{◌≡◌, ◌≢◌, ℕ, List, [], ◌∷◌, ◌<◌, MatchResult, IfOk, IfErr, OnOk, IfSome, Some, ◌++◌, codes, decimal, Ok, Err, ◌⊎◌, drop};
-ghost use Rattle.std.specs.Option.{option_map_or};
-ghost use Rattle.call_words.specs.Words.{words_of};
+ghost use Rattle.std.specs.Prelude.{◌≡◌, ◌≢◌, [], ◌∷◌, ◌<◌, ◌≤◌, ◌*◌, ◌/◌, ◌%◌, length, take, flat_map, cond, true, false, MatchResult, IfOk, IfErr, OnOk, ◌++◌, codes, decimal, Ok, Err, ◌⊎◌, drop};
+ghost use Rattle.std.specs.Io.KnownBytes.{Appends};
+ghost use Rattle.std.specs.Int.{to_be_bytes, w16};
+ghost use Rattle.call_words.specs.Words.{words_of, words_left, first_length};
 ghost use Rattle.decimals.specs.Signed.{list_text};
-ghost use Rattle.call_words.specs.Replies.{with_word, fault_text, optional_text, bytes_text, numbers_text};
+ghost use Rattle.call_words.specs.Replies.{word_behind, fault_text, optional_text, bytes_text, numbers_text};
 ghost use Rattle.call_words.specs.Reads.{wrong_decimal, decimal_word, optional_word, signed_word, wrong_hex, hex_word, first_read};
 ghost use Rattle.call_words.specs.declared.Fault.TheVariants.{WrongCount, OutOfMemory};
 
 use hex::FromHexError;
-use std::alloc::{AllocError, AllocFailed, Global};
-use std::io::Write;
-use std::marker::Model;
-use std::{fmt, io};
+use std::io;
+use std::io::{ErrorKind, Write};
+
+// A line has at most 65,536 bytes. These hold what its words spell, and the text that spells as much: two digits a byte, and at most four
+// bytes and a comma a signed number.
+pub type Bytes = [u8; 32768];
+
+pub type List = [u16; 16384];
+
+pub type Signed = [i8; 32768];
+
+pub type Text = [u8; 163840];
 
 // Why a line is not answered.
 #[derive(Clone, Copy, Debug, PartialEq, Eq)]
@@ -29,19 +38,18 @@ pub enum Fault {
     OutOfMemory,
 }
 
-impl fmt::Display for Fault {
-    ghost output = { λ fault. Some (fault_text fault) };
-
-    fn fmt<W: fmt::Write>(&self, f: &mut fmt::Formatter<W>) -> fmt::Result {
-        f.write_str(match self {
-            Fault::TooLong => "too long",
-            Fault::UnknownCall => "unknown call",
-            Fault::WrongCount => "wrong count",
-            Fault::BadDigit => "bad digit",
-            Fault::OddCount => "odd count",
-            Fault::TooLarge => "too large",
-            Fault::OutOfMemory => "out of memory",
-        })
+// What is written of a line that is not answered.
+fn message(fault: Fault) -> &'static str
+    ensures { result.now ≡ codes "error " ++ fault_text fault }
+{
+    match fault {
+        Fault::TooLong => "error too long",
+        Fault::UnknownCall => "error unknown call",
+        Fault::WrongCount => "error wrong count",
+        Fault::BadDigit => "error bad digit",
+        Fault::OddCount => "error odd count",
+        Fault::TooLarge => "error too large",
+        Fault::OutOfMemory => "error out of memory",
     }
 }
 
@@ -68,45 +76,23 @@ impl From<FromHexError> for Fault {
     }
 }
 
-impl From<AllocError> for Fault {
-    ghost from_gives = { λ _ result. result ≡ OutOfMemory };
-
-    fn from(_error: AllocError) -> Fault {
-        Fault::OutOfMemory
-    }
-}
-
-impl<T: Drop> From<AllocFailed<T>> for Fault {
-    ghost from_gives = { λ _ result. result ≡ OutOfMemory };
-
-    fn from(_error: AllocFailed<T>) -> Fault {
-        Fault::OutOfMemory
-    }
-}
-
 // The words of a line that are not read yet: those of what is left of it, none past its end.
-#[derive(Clone, Drop)]
+#[derive(Clone, Copy)]
 pub struct Words<'a> {
     rest: Option<&'a [u8]>,
 }
 
-impl<'a> Model for Words<'a> {
-    ghost Value = { List (List ℕ) };
-
-    ghost view = { λ words. option_map_or (λ rest. words_of rest.now) words.rest [] };
-}
-
 impl<'a> Words<'a> {
     pub fn new(line: &'a [u8]) -> Self
-        ensures { result ≡ words_of line.now }
+        ensures { words_left result ≡ words_of line.now }
     {
         Words { rest: Some(line) }
     }
 
     // The next word, up to a space or the line's end.
     pub fn word(&mut self) -> Result<&'a [u8], Fault>
-        ensures { MatchResult result (λ word. self.old ≡ word.now ∷ self.new)
-            (λ fault. (fault ≡ WrongCount) × (self.old ≡ []) × (self.new ≡ [])) }
+        ensures { MatchResult result (λ word. words_left self.old ≡ word.now ∷ words_left self.new)
+            (λ fault. (fault ≡ WrongCount) × (words_left self.old ≡ []) × (words_left self.new ≡ [])) }
     {
         let Some(rest) = self.rest else {
             return Err(Fault::WrongCount);
@@ -122,16 +108,16 @@ impl<'a> Words<'a> {
 
     // The next word as a number.
     pub fn number(&mut self) -> Result<usize, Fault>
-        ensures number { result ≡ first_read decimal_word self.old }
-        ensures left { self.new ≡ drop 1 self.old }
+        ensures number { result ≡ first_read decimal_word (words_left self.old) }
+        ensures left { words_left self.new ≡ drop 1 (words_left self.old) }
     {
         Ok(decimals_read::decimal_of(self.word()?, usize::MAX)?)
     }
 
     // The next word as a number that may be missing.
     pub fn optional(&mut self) -> Result<Option<usize>, Fault>
-        ensures number { result ≡ first_read optional_word self.old }
-        ensures left { self.new ≡ drop 1 self.old }
+        ensures number { result ≡ first_read optional_word (words_left self.old) }
+        ensures left { words_left self.new ≡ drop 1 (words_left self.old) }
     {
         let word = self.word()?;
         if word == b"-".as_slice() {
@@ -140,17 +126,19 @@ impl<'a> Words<'a> {
         Ok(Some(decimals_read::decimal_of(word, usize::MAX)?))
     }
 
-    // The next word as bytes, whose elements have `digits` hex digits each.
-    pub fn bytes(&mut self, digits: usize, alloc: Global) -> Result<Vec<u8>, Fault>
+    // Reads the next word as bytes, whose elements have `digits` hex digits each, to the front of a buffer, and says how many bytes they are.
+    pub fn bytes(&mut self, digits: usize, buffer: &mut [u8]) -> Result<usize, Fault>
         requires { 0 < digits }
-        ensures ok { IfOk result (λ bytes. first_read (hex_word digits) self.old ≡ Ok bytes.items) }
-        ensures err { IfErr result (λ fault. (fault ≡ OutOfMemory)
-            ⊎ (first_read (hex_word digits) self.old ≡ Err fault)) }
-        ensures left { self.new ≡ drop 1 self.old }
+        ensures ok { IfOk result (λ count. first_read (hex_word digits) (words_left self.old) ≡ Ok (take count buffer.new)) }
+        ensures err { IfErr result (λ fault. ((fault ≡ OutOfMemory) × (length buffer.new < first_length (words_left self.old) / 2))
+            ⊎ (first_read (hex_word digits) (words_left self.old) ≡ Err fault)) }
+        ensures within { IfOk result (λ count. (count ≤ length buffer.new) × (2 * count % digits ≡ 0)
+            × (count ≤ first_length (words_left self.old) / 2)) }
+        ensures left { words_left self.new ≡ drop 1 (words_left self.old) }
     {
         let word = self.word()?;
         if word == b"-".as_slice() {
-            return Ok(Vec::new(alloc));
+            return Ok(0);
         }
         if word.is_empty() {
             return Err(Fault::BadDigit);
@@ -158,25 +146,34 @@ impl<'a> Words<'a> {
         if word.len() % digits != 0 {
             return Err(Fault::OddCount);
         }
-        Ok(hex::decode(alloc, word)?)
+        let count = word.len() / 2;
+        if buffer.len() < count {
+            return Err(Fault::OutOfMemory);
+        }
+        hex::decode_to_slice(word, &mut buffer[..count])?;
+        Ok(count)
     }
 
-    // The next word as signed numbers. Each takes a byte and a comma, or is the last one.
-    pub fn signed(&mut self, alloc: Global) -> Result<Vec<i8>, Fault>
-        ensures ok { IfOk result (λ list. first_read signed_word self.old ≡ Ok list.items) }
-        ensures err { IfErr result (λ fault. (fault ≡ OutOfMemory) ⊎ (first_read signed_word self.old ≡ Err fault)) }
-        ensures left { self.new ≡ drop 1 self.old }
+    // Reads the next word as signed numbers to the front of a list, and says how many they are. Each takes a byte and a comma, or is the last
+    // one.
+    pub fn signed(&mut self, list: &mut [i8]) -> Result<usize, Fault>
+        ensures ok { IfOk result (λ count. first_read signed_word (words_left self.old) ≡ Ok (take count list.new)) }
+        ensures err { IfErr result (λ fault. ((fault ≡ OutOfMemory) × (length list.new ≤ first_length (words_left self.old) / 2))
+            ⊎ (first_read signed_word (words_left self.old) ≡ Err fault)) }
+        ensures within { IfOk result (λ count. count ≤ length list.new) }
+        ensures left { words_left self.new ≡ drop 1 (words_left self.old) }
     {
         let word = self.word()?;
-        let mut list = vec![in alloc; 0i8; word.len() / 2 + 1]?;
-        let count = decimals_read::signed_of(word, &mut list)?;
-        list.truncate(count);
-        Ok(list)
+        if list.len() <= word.len() / 2 {
+            return Err(Fault::OutOfMemory);
+        }
+        Ok(decimals_read::signed_of(word, list)?)
     }
 
     // Whether no word is left.
     pub fn finish(&self) -> Result<(), Fault>
-        ensures { MatchResult result (λ _. self.now ≡ []) (λ fault. (fault ≡ WrongCount) × (self.now ≢ [])) }
+        ensures { MatchResult result (λ _. words_left self.now ≡ [])
+            (λ fault. (fault ≡ WrongCount) × (words_left self.now ≢ [])) }
     {
         match self.rest {
             None => Ok(()),
@@ -185,102 +182,172 @@ impl<'a> Words<'a> {
     }
 }
 
-// The words of a reply.
+// Writes numbers of 16 bits as bytes, high byte first.
+fn pairs_into(list: &[u16], bytes: &mut [u8])
+    requires { length bytes.old ≡ 2 * length list.now }
+    ensures { bytes.new ≡ flat_map (λ x. to_be_bytes w16 x) list.now }
+{
+    for i in 0..list.len() {
+        let [high, low] = list[i].to_be_bytes();
+        bytes[2 * i] = high;
+        bytes[2 * i + 1] = low;
+    }
+}
+
+// An error of a text that is too short for a word.
+fn too_short() -> io::Error {
+    io::Error::from(ErrorKind::OutOfMemory)
+}
+
+// Writes bytes as a word, which is made in the text before.
+fn write_bytes<W: Write>(to: &mut W, bytes: &[u8], text: &mut [u8]) -> io::Result<()>
+    ensures { OnOk result (Appends (W.contents to.old) (W.contents to.new) (bytes_text bytes.now)) }
+{
+    if bytes.is_empty() {
+        return streams::write_all(to, b"-");
+    }
+    if text.len() / 2 < bytes.len() {
+        return Err(too_short());
+    }
+    let word = &mut text[..2 * bytes.len()];
+    hex::encode_to_slice(bytes, word).map_err(|_| too_short())?;
+    streams::write_all(to, word)
+}
+
+// Writes numbers of 16 bits as a word, by way of their bytes.
+fn write_list<W: Write>(to: &mut W, list: &[u16], text: &mut [u8]) -> io::Result<()>
+    ensures { OnOk result (Appends (W.contents to.old) (W.contents to.new) (numbers_text list.now)) }
+{
+    if text.len() / 2 < list.len() {
+        return Err(too_short());
+    }
+    let (bytes, text) = text.split_at_mut(2 * list.len());
+    pairs_into(list, bytes);
+    write_bytes(to, bytes, text)
+}
+
+// Writes signed numbers as a word.
+fn write_signed<W: Write>(to: &mut W, list: &[i8], text: &mut [u8]) -> io::Result<()>
+    ensures { OnOk result (Appends (W.contents to.old) (W.contents to.new) (list_text list.now)) }
+{
+    if text.is_empty() || text.len() / 5 < list.len() {
+        return Err(too_short());
+    }
+    let count = decimals_write::signed_into(list, text);
+    streams::write_all(to, &text[..count])
+}
+
+// The words of a reply, each written as it comes, behind a space but for the first. A word of bytes or numbers is made in the text before.
 #[derive(Drop)]
-pub struct Reply {
-    text: Vec<u8>,
+pub struct Reply<'a, W> {
+    to: &'a mut W,
+    text: &'a mut [u8],
+    is_begun: bool,
 }
 
-impl Model for Reply {
-    ghost Value = { List ℕ };
-
-    ghost view = { λ reply. reply.text.items };
-}
-
-impl Reply {
-    pub fn new(alloc: Global) -> Self
-        ensures { result ≡ [] }
+impl<'a, W: Write> Reply<'a, W> {
+    pub fn new(to: &'a mut W, text: &'a mut [u8]) -> Self
+        ensures { (W.contents result.to.now ≡ W.contents to.old) × (result.is_begun ≡ false) }
     {
         Reply {
-            text: Vec::new(alloc),
+            to,
+            text,
+            is_begun: false,
         }
     }
 
-    // Writes what is printed as the next word.
-    fn word<D: fmt::Display + Drop>(&mut self, word: D) -> io::Result<()>
-        ensures { OnOk result (IfSome (D.output word) (λ text. self.new ≡ with_word self.old text)) }
+    // Writes a text whose first byte is a space, which is left out before the first word.
+    fn behind_space(&mut self, text: &[u8]) -> io::Result<()>
+        requires { 0 < length text.now }
+        ensures { OnOk result (Appends (W.contents self.old.to.now) (W.contents self.new.to.now)
+            (cond self.old.is_begun text.now (drop 1 text.now)) × (self.new.is_begun ≡ true)) }
     {
-        if !self.text.is_empty() {
-            self.text.push(b' ')?;
-        }
-        write!(self.text, "{word}")
+        let text = if self.is_begun { text } else { &text[1..] };
+        self.is_begun = true;
+        streams::write_all(self.to, text)
     }
 
     pub fn error(&mut self, fault: Fault) -> io::Result<()>
-        ensures { OnOk result (self.new ≡ with_word (with_word self.old (codes "error")) (fault_text fault)) }
+        ensures { OnOk result (Appends (W.contents self.old.to.now) (W.contents self.new.to.now)
+            (word_behind self.old.is_begun (codes "error " ++ fault_text fault)) × (self.new.is_begun ≡ true)) }
     {
-        self.word("error")?;
-        self.word(fault)
+        self.behind_space(b" ")?;
+        streams::write_all(self.to, message(fault).as_bytes())
     }
 
     pub fn number(&mut self, x: u64) -> io::Result<()>
-        ensures { OnOk result (self.new ≡ with_word self.old (decimal x)) }
+        ensures { OnOk result (Appends (W.contents self.old.to.now) (W.contents self.new.to.now)
+            (word_behind self.old.is_begun (decimal x)) × (self.new.is_begun ≡ true)) }
     {
-        self.word(x)
+        self.behind_space(b" ")?;
+        streams::print_decimal(self.to, x)
     }
 
     pub fn optional(&mut self, x: Option<u64>) -> io::Result<()>
-        ensures { OnOk result (self.new ≡ with_word self.old (optional_text x)) }
+        ensures { OnOk result (Appends (W.contents self.old.to.now) (W.contents self.new.to.now)
+            (word_behind self.old.is_begun (optional_text x)) × (self.new.is_begun ≡ true)) }
     {
         match x {
             Some(x) => self.number(x),
-            None => self.word("-"),
+            None => self.behind_space(b" -"),
         }
     }
 
-    pub fn bytes(&mut self, bytes: &[u8]) -> io::Result<()>
-        ensures { OnOk result (self.new ≡ with_word self.old (bytes_text bytes.now)) }
+    // Three numbers that are missing, at once.
+    pub fn three_missing(&mut self) -> io::Result<()>
+        ensures { OnOk result (Appends (W.contents self.old.to.now) (W.contents self.new.to.now)
+            (word_behind self.old.is_begun (codes "- - -")) × (self.new.is_begun ≡ true)) }
     {
-        if bytes.is_empty() {
-            return self.word("-");
-        }
-        let digits = hex::encode(*self.text.allocator(), bytes)?;
-        // with the space before it and the newline
-        self.text.reserve(digits.len().saturating_add(2))?;
-        self.word(digits.as_str())
+        self.behind_space(b" - - -")
+    }
+
+    pub fn bytes(&mut self, bytes: &[u8]) -> io::Result<()>
+        ensures { OnOk result (Appends (W.contents self.old.to.now) (W.contents self.new.to.now)
+            (word_behind self.old.is_begun (bytes_text bytes.now)) × (self.new.is_begun ≡ true)) }
+    {
+        self.behind_space(b" ")?;
+        write_bytes(self.to, bytes, self.text)
     }
 
     // Numbers of 16 bits, four digits each.
     pub fn list(&mut self, list: &[u16]) -> io::Result<()>
-        ensures { OnOk result (self.new ≡ with_word self.old (numbers_text list.now)) }
+        ensures { OnOk result (Appends (W.contents self.old.to.now) (W.contents self.new.to.now)
+            (word_behind self.old.is_begun (numbers_text list.now)) × (self.new.is_begun ≡ true)) }
     {
-        let mut bytes = Vec::new(*self.text.allocator());
-        for x in list {
-            bytes.extend_from_slice(&x.to_be_bytes())?;
-        }
-        self.bytes(&bytes)
+        self.behind_space(b" ")?;
+        write_list(self.to, list, self.text)
     }
 
-    // Signed numbers, with commas between. Behind an empty word room is made for the longest text, and what is left of it is cut off again.
+    // Signed numbers, with commas between.
     pub fn signed(&mut self, list: &[i8]) -> io::Result<()>
-        ensures { OnOk result (self.new ≡ with_word self.old (list_text list.now)) }
+        ensures { OnOk result (Appends (W.contents self.old.to.now) (W.contents self.new.to.now)
+            (word_behind self.old.is_begun (list_text list.now)) × (self.new.is_begun ≡ true)) }
     {
-        self.word("")?;
-        let start = self.text.len();
-        let longest = list.len().max(1).checked_mul(5).ok_or(AllocError)?;
-        let end = start.checked_add(longest).ok_or(AllocError)?;
-        self.text.resize(end, 0)?;
-        let count = decimals_write::signed_into(list, self.text.slice_mut(start..));
-        self.text.truncate(start + count);
-        Ok(())
+        self.behind_space(b" ")?;
+        write_signed(self.to, list, self.text)
     }
 
-    // The whole line.
-    pub fn finish(self) -> io::Result<Vec<u8>>
-        ensures { IfOk result (λ line. line.items ≡ self ++ codes "\n") }
+    // The whole reply to a line that is too long, at once.
+    pub fn too_long(self) -> io::Result<()>
+        ensures { OnOk result (Appends (W.contents self.entry.to.now) (W.contents self.exit.0.now) (codes "error too long\n")) }
     {
-        let Reply { mut text } = self;
-        text.push(b'\n')?;
-        Ok(text)
+        let Reply {
+            to,
+            text: _,
+            is_begun: _,
+        } = self;
+        streams::write_all(to, b"error too long\n")
+    }
+
+    // The end of the line.
+    pub fn finish(self) -> io::Result<()>
+        ensures { OnOk result (Appends (W.contents self.entry.to.now) (W.contents self.exit.0.now) (codes "\n")) }
+    {
+        let Reply {
+            to,
+            text: _,
+            is_begun: _,
+        } = self;
+        streams::write_all(to, b"\n")
     }
 }

@@ -6,11 +6,18 @@ ghost use Rattle.std.specs.List.{zip};
 ghost use Rattle.packing.specs.Packing.{unpacked};
 ghost use Rattle.margin_bits.specs.Bits.{differing};
 
+// Whether two numbers differ.
+fn differ(x: u16, y: u16) -> bool
+    ensures { result ≡ not (eqb x y) }
+{
+    x != y
+}
+
 // In how many places two lists differ, by the pairs that are not the same.
 fn differing_of(a: &[u16], b: &[u16]) -> usize
     ensures { result ≡ count_by (λ (p : ℕ × ℕ). not (eqb p.0 p.1)) (zip a.now b.now) }
 {
-    a.iter().zip(b).filter(|(x, y)| x != y).count()
+    a.iter().zip(b).filter(|&(&x, &y)| differ(x, y)).count()
 }
 
 // In how many bits two strings of 32 bytes differ.

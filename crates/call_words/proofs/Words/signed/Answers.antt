@@ -3,4 +3,4 @@ use Rattle.std.proofs.Common.{arith}
 use Rattle.call_words.proofs.Words.signed.Goals as goal
 
 pub signed_of-requires : goal.signed_of-requires
-signed_of-requires c = omega (arith, c.in_ok-list.ensures.len)
+signed_of-requires c = omega (arith, c.if-list-word.false)

@@ -7,6 +7,6 @@ pub returns : goal.returns
 returns c =
     let s = c.in-Some.rest.now in
     elim c.if-after-lt1.branch [
-      | in-empty w ↦ rw (← c.self.view_is, c.in-Some.is, w.self-is, c.split_at.ensures.front) (last_word s _ _ c.find-end.ensures.place c.split_at.ensures.back w.in-empty.len_below)
-      | in-len1-up w ↦ rw (← c.self.view_is, c.in-Some.is, w.self-is, c.split_at.ensures.front) (more_words s _ _ c.find-end.ensures.place c.split_at.ensures.back w.in-len1-up.len_at_least)
+      | in-empty w ↦ rw (c.in-Some.is, w.self-is, c.split_at.ensures.front) (last_word s _ _ c.find-end.ensures.place c.split_at.ensures.back w.in-empty.len_below)
+      | in-len1-up w ↦ rw (c.in-Some.is, w.self-is, c.split_at.ensures.front) (more_words s _ _ c.find-end.ensures.place c.split_at.ensures.back w.in-len1-up.len_at_least)
     ]
