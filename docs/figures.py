@@ -1,7 +1,7 @@
 #!/usr/bin/env python3
 """figures.py [ROOT]: the repository's figures by crate, for docs/PROOFS.md.
 
-Lines of code, of definitions, of inner files (what inner functions require and ensure), of laws and of proofs, neither blank nor
+Lines of code without its tests, of definitions, of inner files (what inner functions require and ensure), of laws and of proofs, neither blank nor
 comment nor import; and the wrong programs that the check must refuse. tests/definitions.py says which file of specs/ is what. The
 seconds are those that the table in docs/PROOFS.md has: they were taken with an older kit, and today's `rt ci` tells none."""
 import pathlib
@@ -35,7 +35,7 @@ def main():
         crate = root / "crates" / name
         files = specs(crate).items()
         row = [
-            lines(crate.glob("src/**/*.rt")),
+            lines({*crate.glob("src/**/*.rt")} - {*crate.glob("src/tests.rt")}),
             *(lines(path for file, path in files if kind_of(file) == kind) for kind in KINDS),
             lines([*(path for file, path in files if kind_of(file) == "laws"), *crate.glob("proofs/Laws/*.antt")]),
             lines({*crate.glob("proofs/**/*.antt")} - {*crate.glob("proofs/Laws/*.antt")}),

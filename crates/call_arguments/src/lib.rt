@@ -8,6 +8,9 @@ ghost use Rattle.call_words.specs.Reads.{first_read, optional_word, hex_word, si
 ghost use Rattle.call_words.specs.declared.Fault.TheVariants.{WrongCount, OutOfMemory};
 ghost use Rattle.call_arguments.specs.Arguments.{narrowed, number_word, door_word, arguments_left, HasRead, SamePlace, KeepsArguments};
 
+#[cfg(test)]
+mod tests;
+
 use call_words::{Bytes, Fault, List, Signed, Words};
 
 // What the arguments of a request spell: bytes, numbers of 16 bits and signed numbers, those of an argument behind those of the one before.
@@ -74,6 +77,14 @@ impl<'a> Arguments<'a> {
             numbers_read: 0,
             signed_read: 0,
         }
+    }
+
+    // The words that are not read yet. With a buffer of its own a caller reads from them what `Buffers` has no room for.
+    pub fn words(&self) -> Words<'a>
+        ensures { words_left result ≡ arguments_left self.now }
+    {
+        let Arguments { words, .. } = *self;
+        words
     }
 
     // A set, a width or a modulus.

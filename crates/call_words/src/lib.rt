@@ -3,18 +3,22 @@
 // spell in the kit's `hex`.
 #![tactic(auto)]
 
-ghost use Rattle.std.specs.Prelude.{◌≡◌, ◌≢◌, [], ◌∷◌, ◌<◌, ◌≤◌, ◌*◌, ◌/◌, ◌%◌, length, take, flat_map, cond, true, false, MatchResult, IfOk, IfErr, OnOk, ◌++◌, codes, decimal, Ok, Err, ◌⊎◌, drop};
+ghost use Rattle.std.specs.Prelude.{◌≡◌, ◌≢◌, [], ◌∷◌, ◌<◌, ◌≤◌, ◌*◌, ◌/◌, ◌%◌, Some, length, take, flat_map, cond, true, false, MatchResult, IfOk, IfErr, OnOk, ◌++◌, codes, decimal, Ok, Err, ◌⊎◌, drop};
 ghost use Rattle.std.specs.Io.KnownBytes.{Appends};
 ghost use Rattle.std.specs.Int.{to_be_bytes, w16};
 ghost use Rattle.call_words.specs.Words.{words_of, words_left, first_length};
 ghost use Rattle.decimals.specs.Signed.{list_text};
-ghost use Rattle.call_words.specs.Replies.{word_behind, fault_text, optional_text, bytes_text, numbers_text};
+ghost use Rattle.call_words.specs.Replies.{word_behind, fault_text, optional_text, bytes_text, numbers_text, written, has_word, WritesTo, SameWriter};
 ghost use Rattle.call_words.specs.Reads.{wrong_decimal, decimal_word, optional_word, signed_word, wrong_hex, hex_word, first_read};
 ghost use Rattle.call_words.specs.declared.Fault.TheVariants.{WrongCount, OutOfMemory};
 
+#[cfg(test)]
+mod tests;
+
 use hex::FromHexError;
-use std::io;
+use std::alloc::{AllocError, AllocFailed};
 use std::io::{ErrorKind, Write};
+use std::{fmt, io};
 
 // A line has at most 65,536 bytes. These hold what its words spell, and the text that spells as much: two digits a byte, and at most four
 // bytes and a comma a signed number.
@@ -53,6 +57,14 @@ fn message(fault: Fault) -> &'static str
     }
 }
 
+impl fmt::Display for Fault {
+    ghost output = { λ fault. Some (fault_text fault) };
+
+    fn fmt<W: fmt::Write>(&self, f: &mut fmt::Formatter<W>) -> fmt::Result {
+        f.write_str(&message(*self)[6..])
+    }
+}
+
 impl From<decimals::Fault> for Fault {
     ghost from_gives = { λ fault result. result ≡ wrong_decimal fault };
 
@@ -73,6 +85,22 @@ impl From<FromHexError> for Fault {
             FromHexError::OddLength | FromHexError::InvalidStringLength => Fault::OddCount,
             FromHexError::OutOfMemory => Fault::OutOfMemory,
         }
+    }
+}
+
+impl From<AllocError> for Fault {
+    ghost from_gives = { λ _ result. result ≡ OutOfMemory };
+
+    fn from(_error: AllocError) -> Fault {
+        Fault::OutOfMemory
+    }
+}
+
+impl<T: Drop> From<AllocFailed<T>> for Fault {
+    ghost from_gives = { λ _ result. result ≡ OutOfMemory };
+
+    fn from(_error: AllocFailed<T>) -> Fault {
+        Fault::OutOfMemory
     }
 }
 
@@ -247,7 +275,8 @@ pub struct Reply<'a, W> {
 
 impl<'a, W: Write> Reply<'a, W> {
     pub fn new(to: &'a mut W, text: &'a mut [u8]) -> Self
-        ensures { (W.contents result.to.now ≡ W.contents to.old) × (result.is_begun ≡ false) }
+        ensures begun { (written W.contents result ≡ W.contents to.old) × (has_word result ≡ false) }
+        ensures same_writer { WritesTo result to.entry }
     {
         Reply {
             to,
@@ -259,8 +288,9 @@ impl<'a, W: Write> Reply<'a, W> {
     // Writes a text whose first byte is a space, which is left out before the first word.
     fn behind_space(&mut self, text: &[u8]) -> io::Result<()>
         requires { 0 < length text.now }
-        ensures { OnOk result (Appends (W.contents self.old.to.now) (W.contents self.new.to.now)
-            (cond self.old.is_begun text.now (drop 1 text.now)) × (self.new.is_begun ≡ true)) }
+        ensures word { OnOk result (Appends (written W.contents self.old) (written W.contents self.new)
+            (cond (has_word self.old) text.now (drop 1 text.now)) × (has_word self.new ≡ true)) }
+        ensures same_writer { SameWriter self.old self.new }
     {
         let text = if self.is_begun { text } else { &text[1..] };
         self.is_begun = true;
@@ -268,24 +298,27 @@ impl<'a, W: Write> Reply<'a, W> {
     }
 
     pub fn error(&mut self, fault: Fault) -> io::Result<()>
-        ensures { OnOk result (Appends (W.contents self.old.to.now) (W.contents self.new.to.now)
-            (word_behind self.old.is_begun (codes "error " ++ fault_text fault)) × (self.new.is_begun ≡ true)) }
+        ensures word { OnOk result (Appends (written W.contents self.old) (written W.contents self.new)
+            (word_behind (has_word self.old) (codes "error " ++ fault_text fault)) × (has_word self.new ≡ true)) }
+        ensures same_writer { SameWriter self.old self.new }
     {
         self.behind_space(b" ")?;
         streams::write_all(self.to, message(fault).as_bytes())
     }
 
     pub fn number(&mut self, x: u64) -> io::Result<()>
-        ensures { OnOk result (Appends (W.contents self.old.to.now) (W.contents self.new.to.now)
-            (word_behind self.old.is_begun (decimal x)) × (self.new.is_begun ≡ true)) }
+        ensures word { OnOk result (Appends (written W.contents self.old) (written W.contents self.new)
+            (word_behind (has_word self.old) (decimal x)) × (has_word self.new ≡ true)) }
+        ensures same_writer { SameWriter self.old self.new }
     {
         self.behind_space(b" ")?;
         streams::print_decimal(self.to, x)
     }
 
     pub fn optional(&mut self, x: Option<u64>) -> io::Result<()>
-        ensures { OnOk result (Appends (W.contents self.old.to.now) (W.contents self.new.to.now)
-            (word_behind self.old.is_begun (optional_text x)) × (self.new.is_begun ≡ true)) }
+        ensures word { OnOk result (Appends (written W.contents self.old) (written W.contents self.new)
+            (word_behind (has_word self.old) (optional_text x)) × (has_word self.new ≡ true)) }
+        ensures same_writer { SameWriter self.old self.new }
     {
         match x {
             Some(x) => self.number(x),
@@ -295,15 +328,17 @@ impl<'a, W: Write> Reply<'a, W> {
 
     // Three numbers that are missing, at once.
     pub fn three_missing(&mut self) -> io::Result<()>
-        ensures { OnOk result (Appends (W.contents self.old.to.now) (W.contents self.new.to.now)
-            (word_behind self.old.is_begun (codes "- - -")) × (self.new.is_begun ≡ true)) }
+        ensures word { OnOk result (Appends (written W.contents self.old) (written W.contents self.new)
+            (word_behind (has_word self.old) (codes "- - -")) × (has_word self.new ≡ true)) }
+        ensures same_writer { SameWriter self.old self.new }
     {
         self.behind_space(b" - - -")
     }
 
     pub fn bytes(&mut self, bytes: &[u8]) -> io::Result<()>
-        ensures { OnOk result (Appends (W.contents self.old.to.now) (W.contents self.new.to.now)
-            (word_behind self.old.is_begun (bytes_text bytes.now)) × (self.new.is_begun ≡ true)) }
+        ensures word { OnOk result (Appends (written W.contents self.old) (written W.contents self.new)
+            (word_behind (has_word self.old) (bytes_text bytes.now)) × (has_word self.new ≡ true)) }
+        ensures same_writer { SameWriter self.old self.new }
     {
         self.behind_space(b" ")?;
         write_bytes(self.to, bytes, self.text)
@@ -311,8 +346,9 @@ impl<'a, W: Write> Reply<'a, W> {
 
     // Numbers of 16 bits, four digits each.
     pub fn list(&mut self, list: &[u16]) -> io::Result<()>
-        ensures { OnOk result (Appends (W.contents self.old.to.now) (W.contents self.new.to.now)
-            (word_behind self.old.is_begun (numbers_text list.now)) × (self.new.is_begun ≡ true)) }
+        ensures word { OnOk result (Appends (written W.contents self.old) (written W.contents self.new)
+            (word_behind (has_word self.old) (numbers_text list.now)) × (has_word self.new ≡ true)) }
+        ensures same_writer { SameWriter self.old self.new }
     {
         self.behind_space(b" ")?;
         write_list(self.to, list, self.text)
@@ -320,8 +356,9 @@ impl<'a, W: Write> Reply<'a, W> {
 
     // Signed numbers, with commas between.
     pub fn signed(&mut self, list: &[i8]) -> io::Result<()>
-        ensures { OnOk result (Appends (W.contents self.old.to.now) (W.contents self.new.to.now)
-            (word_behind self.old.is_begun (list_text list.now)) × (self.new.is_begun ≡ true)) }
+        ensures word { OnOk result (Appends (written W.contents self.old) (written W.contents self.new)
+            (word_behind (has_word self.old) (list_text list.now)) × (has_word self.new ≡ true)) }
+        ensures same_writer { SameWriter self.old self.new }
     {
         self.behind_space(b" ")?;
         write_signed(self.to, list, self.text)
@@ -329,7 +366,7 @@ impl<'a, W: Write> Reply<'a, W> {
 
     // The whole reply to a line that is too long, at once.
     pub fn too_long(self) -> io::Result<()>
-        ensures { OnOk result (Appends (W.contents self.entry.to.now) (W.contents self.exit.0.now) (codes "error too long\n")) }
+        ensures { OnOk result (Appends (written W.contents self.entry) (W.contents self.exit.0.now) (codes "error too long\n")) }
     {
         let Reply {
             to,
@@ -341,7 +378,7 @@ impl<'a, W: Write> Reply<'a, W> {
 
     // The end of the line.
     pub fn finish(self) -> io::Result<()>
-        ensures { OnOk result (Appends (W.contents self.entry.to.now) (W.contents self.exit.0.now) (codes "\n")) }
+        ensures { OnOk result (Appends (written W.contents self.entry) (W.contents self.exit.0.now) (codes "\n")) }
     {
         let Reply {
             to,

@@ -1,1 +1,1 @@
-pub mod Least
+pub mod Smallest

@@ -1,16 +1,20 @@
 // A line of the margin report, written.
 #![tactic(auto)]
 
-ghost use Rattle.std.specs.Prelude.{[], ◌∷◌, ◌++◌, ◌+◌, ◌≤◌, pos, ◌-ℤ◌, length};
+ghost use Rattle.std.specs.Prelude.{[], ◌∷◌, ◌++◌, ◌+◌, ◌<◌, ◌≤◌, ◌≡◌, pos, ◌-ℤ◌, length, Some};
 ghost use Rattle.decimals.specs.Decimals.{decimal};
 ghost use Rattle.decimals.specs.Signed.{number_text};
 ghost use Rattle.decimals.specs.Ensures.{Appended};
 ghost use Rattle.margin_noise.specs.Ensures.{least_of};
-ghost use Rattle.margin_line.specs.Line.{least_text, line};
+ghost use Rattle.margin_line.specs.Line.{held, least_text, line, line_text};
 ghost use Rattle.margin_line.specs.Requires.{LineLengths};
+
+#[cfg(test)]
+mod tests;
 
 use decimals_write::{decimal_into, put};
 use sets::Params;
+use std::fmt;
 
 // Writes a text to a place, and says where the next one goes.
 pub fn text_into(part: &[u8], at: usize, text: &mut [u8]) -> usize
@@ -52,7 +56,7 @@ fn difference_into(a: usize, b: usize, at: usize, text: &mut [u8]) -> usize
 }
 
 // The smallest margin of a number of groups, by their largest norm, and `none` of no group.
-#[tactic(auto, using(crate::proofs::Least::none_long, crate::proofs::Least::none_written, crate::proofs::Least::some_long, crate::proofs::Least::some_written))]
+#[tactic(auto, using(crate::proofs::Smallest::none_long, crate::proofs::Smallest::none_written, crate::proofs::Smallest::some_long, crate::proofs::Smallest::some_written))]
 fn least_into(p: Params, cases: usize, norm: usize, at: usize, text: &mut [u8]) -> usize
     requires { at + length (least_text (least_of p cases norm)) ≤ length text.old }
     ensures { Appended text.old at (least_text (least_of p cases norm)) text.new result }
@@ -82,4 +86,55 @@ pub fn line_into(
     let b = least_into(p, cases, norm, a, text);
     let c = put(b' ', b, text);
     words_into(wrong, rest, b'\n', c, text)
+}
+
+// The smallest margin of a number of groups, which none has not.
+#[derive(Clone, Copy)]
+pub struct Least(pub Option<i32>);
+
+impl Least {
+    // That of a number of groups, by their largest norm.
+    pub fn of(p: Params, cases: usize, norm: usize) -> Least
+        requires { (p.margin ≤ 256) × (norm < 65536) }
+        ensures { held result.0 ≡ least_of p cases norm }
+    {
+        let least = 8 * i32::from(p.margin) - norm as i32;
+        Least((0 < cases).then_some(least))
+    }
+}
+
+impl fmt::Display for Least {
+    ghost output = { λ least. Some (least_text (held least.0)) };
+
+    fn fmt<W: fmt::Write>(&self, f: &mut fmt::Formatter<W>) -> fmt::Result {
+        match self.0 {
+            Some(least) => write!(f, "{least}"),
+            None => write!(f, "none"),
+        }
+    }
+}
+
+// The figures of a line.
+#[derive(Clone, Copy)]
+pub struct Line {
+    pub set: u8,
+    pub cases: usize,
+    pub least: Least,
+    pub wrong: usize,
+    pub rest: usize,
+}
+
+impl fmt::Display for Line {
+    ghost output = { λ line. Some (line_text line) };
+
+    fn fmt<W: fmt::Write>(&self, f: &mut fmt::Formatter<W>) -> fmt::Result {
+        let Line {
+            set,
+            cases,
+            least,
+            wrong,
+            rest,
+        } = *self;
+        writeln!(f, "{set} {cases} {least} {wrong} {rest}")
+    }
 }

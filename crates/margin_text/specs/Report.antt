@@ -1,8 +1,9 @@
 -- Document 02, A5: what `marginreport` prints of all that it reads, as bytes.
-use Rattle.std.specs.Prelude.{ℕ, Bool, cond, ◌&&◌, List, [], ◌∷◌, ◌++◌, ltb}
+use Rattle.std.specs.Prelude.{ℕ, Bool, cond, ◌&&◌, List, [], ◌∷◌, ◌++◌, Option, Some, None, ltb}
 use Rattle.sets.specs.Sets.{params_of, known}
 use Rattle.decimals.specs.Decimals.{decimal}
-use Rattle.margin_line.specs.Line.{ascii, least_text, line}
+use Rattle.margin_line.specs.declared.Line.{Line}
+use Rattle.margin_line.specs.Line.{ascii, least_text, line, line_text}
 use Rattle.margin_group.specs.Margin.{cases, least, wrong, rest}
 
 -- "one byte with the set number": a set's own, so 0 is none
@@ -33,3 +34,8 @@ refusal = ascii "refused 1\n"
 unfoldable pub report_of : List ℕ → List ℕ
 report_of [] = refusal
 report_of (set ∷ bytes) = cond (is_set set) (figures set bytes) refusal
+
+-- what a report shows: the header and the line of its figures, or the refusal
+unfoldable pub report_text : Option Line → List ℕ
+report_text None = refusal
+report_text (Some l) = header ++ line_text l

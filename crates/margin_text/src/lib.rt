@@ -1,12 +1,16 @@
 // The margin report: what is printed of what is read.
 #![tactic(auto)]
 
-ghost use Rattle.std.specs.Prelude.{true, cond, ◌≡◌, ◌%◌, ◌<◌, ◌≤◌, ltb, length, take};
+ghost use Rattle.std.specs.Prelude.{true, cond, ◌≡◌, ◌%◌, ◌<◌, ◌≤◌, ltb, length, take, Some};
 ghost use Rattle.decimals.specs.Ensures.{Appended};
-ghost use Rattle.margin_text.specs.Report.{is_set, figures, refusal, report_of};
+ghost use Rattle.margin_text.specs.Report.{is_set, figures, refusal, report_of, report_text};
 
-use margin_line::{line_into, text_into};
+#[cfg(test)]
+mod tests;
+
+use margin_line::{Line, line_into, text_into};
 use sets::set_params;
+use std::fmt;
 
 // How many bytes are left over, 0 after 4096 groups.
 fn rest_of(cases: usize, bytes: usize) -> usize
@@ -54,4 +58,19 @@ pub fn report(input: &[u8], text: &mut [u8; 64]) -> usize
         return figures_into(*set, bytes, text);
     }
     refusal_into(text)
+}
+
+// What is printed: the header and the line of figures, or the refusal where there is none.
+#[derive(Clone, Copy)]
+pub struct Printed(pub Option<Line>);
+
+impl fmt::Display for Printed {
+    ghost output = { λ printed. Some (report_text printed.0) };
+
+    fn fmt<W: fmt::Write>(&self, f: &mut fmt::Formatter<W>) -> fmt::Result {
+        match &self.0 {
+            Some(line) => write!(f, "set cases least wrong rest\n{line}"),
+            None => writeln!(f, "refused 1"),
+        }
+    }
 }

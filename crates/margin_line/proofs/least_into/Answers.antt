@@ -1,6 +1,6 @@
 -- `margin_line::least_into`: `none` of no group alone, and else the difference of 8 × M and the norm.
 use Rattle.std.proofs.Common.{◌≡◌, arith}
-use Rattle.margin_line.proofs.Least.{none_long, some_long, some_written}
+use Rattle.margin_line.proofs.Smallest.{none_long, some_long, some_written}
 use Rattle.margin_line.proofs.least_into.Goals as goal
 
 pub text_into-requires : goal.text_into-requires

@@ -1,10 +1,12 @@
 -- Laws of a line's text: what is written one behind the other is the line, and its words are short enough.
 use Prim.Native.Nat.{ℕ, zero, suc, ◌+◌, ◌-◌, ◌<◌, ◌≤◌}
-use Rattle.std.specs.Prelude.{List, [], ◌∷◌, ◌++◌, ◌≡◌, pos, ◌-ℤ◌, length, take}
+use Rattle.std.specs.Prelude.{◌^◌, List, [], ◌∷◌, ◌++◌, ◌≡◌, ℤ, pos, ◌-ℤ◌, Option, Some, None, length, take}
+use Rattle.std.specs.Fmt as std
 use Rattle.std.proofs.Common.{append_assoc, ap, length-append, lt-ltb, le-ltb}
 use Rattle.std.proofs.Math.Path.{refl}
 use Rattle.std.proofs.Math.Decide.{dec_lt}
 use native.Mathlib.Omega.{arith}
+use lib.Signed.{mag}
 use Rattle.lists.specs.Lists.{from}
 use Rattle.lists.specs.Strings.{placed}
 use Rattle.lists.proofs.Laws.Strings.{placed_next}
@@ -13,11 +15,12 @@ use Rattle.decimals.specs.Decimals.{decimal}
 use Rattle.decimals.specs.Signed.{minus, number_text}
 use Rattle.decimals.specs.Ensures.{Appended}
 use Rattle.decimals.specs.Laws.Decimals.{decimal_long}
-use Rattle.decimals.specs.Laws.Texts.{appended_as, appended_two}
+use Rattle.decimals.specs.Laws.Texts.{printed, number_printed, appended_as, appended_two}
 use Rattle.noise.specs.Noise.{bound}
 use Rattle.margin_noise.specs.Ensures.{least_of}
 use Rattle.margin_line.specs.Requires.{LineLengths}
-use Rattle.margin_line.specs.Line.{ascii, least_text, line}
+use Rattle.margin_line.specs.declared.Line.{Line}
+use Rattle.margin_line.specs.Line.{ascii, held, least_text, line, line_text}
 
 pub appended_copy : (at : ℕ) (s old : List ℕ) {new : List ℕ} → at + length s ≤ length old → new ≡ placed at s old → Appended old at s new (at + length s)
 appended_copy at s old h e = record { front = rw e (placed_next at s old h (take at old) (at + length s) refl refl); place = refl }
@@ -94,3 +97,22 @@ pub line_appended :
 unfolding line ascii from
 line_appended set cases least wrong rest p q r s =
     appended_as (simp append_assoc) (appended_two (appended_two (appended_two p q) r) s)
+
+-- ---- what the library writes of a line's figures is the line
+
+module _ (least : Option ℤ) where
+  pub none_written : least ≡ None → 110 ∷ 111 ∷ 110 ∷ 101 ∷ [] ≡ least_text (held least)
+  unfolding least_text ascii from
+  none_written h = rw h
+
+  pub some_written : (z : ℤ) → least ≡ Some z → mag z < 2 ^ 63 → std.signed_decimal z ≡ least_text (held least)
+  unfolding least_text
+  some_written z h fits = rw h (number_printed z fits)
+
+pub line_written :
+    (l : Line) → l.set < 2 ^ 64 → l.cases < 2 ^ 64 → l.wrong < 2 ^ 64 → l.rest < 2 ^ 64 →
+    std.decimal l.set
+    ++ (32 ∷ (std.decimal l.cases ++ (32 ∷ (least_text (held l.least.0) ++ (32 ∷ (std.decimal l.wrong ++ (32 ∷ (std.decimal l.rest ++ 10 ∷ []))))))))
+    ≡ line_text l
+unfolding line_text line ascii from
+line_written l set cases wrong rest = rw (printed l.set set, printed l.cases cases, printed l.wrong wrong, printed l.rest rest) (simp append_assoc)
