@@ -1,8 +1,8 @@
-use crate::Arguments;
-use call_words::Words;
+use crate::{Arguments, Buffers};
+use call_words::{Fault, Words};
 use std::test::Fail;
 
-// A list whose word fills the longest line, for which `Buffers` has no room: 32,768 numbers.
+// A list whose word fills the longest line: 32,768 numbers. `Buffers` has no room for it, and a list of the caller's has.
 #[test]
 fn longest_list(rt: HostRuntime) -> Result<(), Fail> {
     let mut line = [b'1'; 65536];
@@ -10,6 +10,13 @@ fn longest_list(rt: HostRuntime) -> Result<(), Fail> {
         line[2 * i + 1] = b',';
     }
     let arguments = Arguments::new(Words::new(&line));
+    let mut buffers = Buffers {
+        bytes: [0; 32768],
+        numbers: [0; 16384],
+        signed: [0; 32768],
+    };
+    let mut refused = arguments;
+    assert_eq!(rt; refused.signed(&mut buffers), Err(Fault::OutOfMemory));
     let mut words = arguments.words();
     let mut list = [0; 32769];
     assert_eq!(rt; words.signed(&mut list)?, 32768);
@@ -19,7 +26,7 @@ fn longest_list(rt: HostRuntime) -> Result<(), Fail> {
     Ok(())
 }
 
-// The same argument by a buffer of the caller's.
+// An argument is read to a buffer of the caller's, and the next one behind it.
 #[test]
 fn own_buffer(rt: HostRuntime) -> Result<(), Fail> {
     let mut arguments = Arguments::new(Words::new(b"7 01ff 0"));

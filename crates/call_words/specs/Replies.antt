@@ -1,7 +1,8 @@
 -- The words of a reply.
-use Rattle.std.specs.Prelude.{ℕ, Bool, cond, eqb, List, flat_map, ◌∷◌, ◌≡◌, Option, None, Some, codes, decimal, length}
+use Rattle.std.specs.Prelude.{ℕ, Bool, cond, eqb, List, flat_map, ◌∷◌, ◌≡◌, true, Option, None, Some, codes, decimal, length}
 use Rattle.std.specs.Borrow.{MutBor}
 use Rattle.std.specs.Int.{to_be_bytes, w16}
+use Rattle.std.specs.Io.KnownBytes.{Appends}
 use Rattle.hex.specs.Hex.{encode_lower}
 use Rattle.call_words.specs.Words.{space}
 use Rattle.call_words.specs.declared.Reply.{Reply}
@@ -42,6 +43,11 @@ module _ {W : Type 0} where
   -- whether a word of a reply is written
   abbrev pub has_word : Reply W → Bool
   has_word reply = reply.is_begun
+
+  -- a reply has a word more
+  abbrev pub AddsWord : (W → Option (List ℕ)) → List ℕ → Reply W → Reply W → Type 0
+  AddsWord contents word old new =
+      Appends (written contents old) (written contents new) (word_behind (has_word old) word) × (has_word new ≡ true)
 
   -- a reply writes to the writer that is lent
   abbrev pub WritesTo : Reply W → MutBor W → Type 0

@@ -8,7 +8,7 @@ ghost use Rattle.std.specs.Io.KnownBytes.{Appends};
 ghost use Rattle.std.specs.Int.{to_be_bytes, w16};
 ghost use Rattle.call_words.specs.Words.{words_of, words_left, first_length};
 ghost use Rattle.decimals.specs.Signed.{list_text};
-ghost use Rattle.call_words.specs.Replies.{word_behind, fault_text, optional_text, bytes_text, numbers_text, written, has_word, WritesTo, SameWriter};
+ghost use Rattle.call_words.specs.Replies.{fault_text, optional_text, bytes_text, numbers_text, written, has_word, AddsWord, WritesTo, SameWriter};
 ghost use Rattle.call_words.specs.Reads.{wrong_decimal, decimal_word, optional_word, signed_word, wrong_hex, hex_word, first_read};
 ghost use Rattle.call_words.specs.declared.Fault.TheVariants.{WrongCount, OutOfMemory};
 
@@ -298,8 +298,7 @@ impl<'a, W: Write> Reply<'a, W> {
     }
 
     pub fn error(&mut self, fault: Fault) -> io::Result<()>
-        ensures word { OnOk result (Appends (written W.contents self.old) (written W.contents self.new)
-            (word_behind (has_word self.old) (codes "error " ++ fault_text fault)) × (has_word self.new ≡ true)) }
+        ensures word { OnOk result (AddsWord W.contents (codes "error " ++ fault_text fault) self.old self.new) }
         ensures same_writer { SameWriter self.old self.new }
     {
         self.behind_space(b" ")?;
@@ -307,8 +306,7 @@ impl<'a, W: Write> Reply<'a, W> {
     }
 
     pub fn number(&mut self, x: u64) -> io::Result<()>
-        ensures word { OnOk result (Appends (written W.contents self.old) (written W.contents self.new)
-            (word_behind (has_word self.old) (decimal x)) × (has_word self.new ≡ true)) }
+        ensures word { OnOk result (AddsWord W.contents (decimal x) self.old self.new) }
         ensures same_writer { SameWriter self.old self.new }
     {
         self.behind_space(b" ")?;
@@ -316,8 +314,7 @@ impl<'a, W: Write> Reply<'a, W> {
     }
 
     pub fn optional(&mut self, x: Option<u64>) -> io::Result<()>
-        ensures word { OnOk result (Appends (written W.contents self.old) (written W.contents self.new)
-            (word_behind (has_word self.old) (optional_text x)) × (has_word self.new ≡ true)) }
+        ensures word { OnOk result (AddsWord W.contents (optional_text x) self.old self.new) }
         ensures same_writer { SameWriter self.old self.new }
     {
         match x {
@@ -328,16 +325,14 @@ impl<'a, W: Write> Reply<'a, W> {
 
     // Three numbers that are missing, at once.
     pub fn three_missing(&mut self) -> io::Result<()>
-        ensures word { OnOk result (Appends (written W.contents self.old) (written W.contents self.new)
-            (word_behind (has_word self.old) (codes "- - -")) × (has_word self.new ≡ true)) }
+        ensures word { OnOk result (AddsWord W.contents (codes "- - -") self.old self.new) }
         ensures same_writer { SameWriter self.old self.new }
     {
         self.behind_space(b" - - -")
     }
 
     pub fn bytes(&mut self, bytes: &[u8]) -> io::Result<()>
-        ensures word { OnOk result (Appends (written W.contents self.old) (written W.contents self.new)
-            (word_behind (has_word self.old) (bytes_text bytes.now)) × (has_word self.new ≡ true)) }
+        ensures word { OnOk result (AddsWord W.contents (bytes_text bytes.now) self.old self.new) }
         ensures same_writer { SameWriter self.old self.new }
     {
         self.behind_space(b" ")?;
@@ -346,8 +341,7 @@ impl<'a, W: Write> Reply<'a, W> {
 
     // Numbers of 16 bits, four digits each.
     pub fn list(&mut self, list: &[u16]) -> io::Result<()>
-        ensures word { OnOk result (Appends (written W.contents self.old) (written W.contents self.new)
-            (word_behind (has_word self.old) (numbers_text list.now)) × (has_word self.new ≡ true)) }
+        ensures word { OnOk result (AddsWord W.contents (numbers_text list.now) self.old self.new) }
         ensures same_writer { SameWriter self.old self.new }
     {
         self.behind_space(b" ")?;
@@ -356,8 +350,7 @@ impl<'a, W: Write> Reply<'a, W> {
 
     // Signed numbers, with commas between.
     pub fn signed(&mut self, list: &[i8]) -> io::Result<()>
-        ensures word { OnOk result (Appends (written W.contents self.old) (written W.contents self.new)
-            (word_behind (has_word self.old) (list_text list.now)) × (has_word self.new ≡ true)) }
+        ensures word { OnOk result (AddsWord W.contents (list_text list.now) self.old self.new) }
         ensures same_writer { SameWriter self.old self.new }
     {
         self.behind_space(b" ")?;

@@ -13,7 +13,7 @@ use Rattle.margin_line.specs.declared.Line.{Line}
 unfoldable pub ascii : String → List ℕ
 ascii text = from (len text) (λ i. code (char_at text i))
 
--- a margin that the program holds, or none
+-- a margin of the code, or none, as the definitions have it
 abbrev pub held : std.Option ℤ → Option ℤ
 held std.None = none
 held (std.Some z) = some z

@@ -88,12 +88,12 @@ pub fn line_into(
     words_into(wrong, rest, b'\n', c, text)
 }
 
-// The smallest margin of a number of groups, which none has not.
+// The smallest margin of a number of groups, and none where there is no group.
 #[derive(Clone, Copy)]
 pub struct Least(pub Option<i32>);
 
 impl Least {
-    // That of a number of groups, by their largest norm.
+    // The smallest margin of `cases` groups, from their largest norm.
     pub fn of(p: Params, cases: usize, norm: usize) -> Least
         requires { (p.margin ≤ 256) × (norm < 65536) }
         ensures { held result.0 ≡ least_of p cases norm }
